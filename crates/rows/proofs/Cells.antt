@@ -1,0 +1,53 @@
+-- Laws of cells and windows, over lists alone.
+use mathlib.Core.Path.{_≡_, refl, sym, ap, _∙_}
+use mathlib.Core.Bool.{cond}
+use mathlib.Core.List.{List, [], _∷_}
+use Prim.Native.Nat.{ℕ, zero, suc, _+_, _-_, _<_, _≤_, min}
+use native.Mathlib.Nat.{min-le-left}
+use native.Mathlib.Omega.{arith}
+use lib.Dec.{ltb}
+use lib.ListN.{length, take, drop, set}
+use lib.Seq.{take-set-lt}
+use Rattle.std.specs.Finite.{nth}
+use Rattle.std.proofs.iter.runs.Lists.{nth-drop}
+use Rattle.std.proofs.shelf.Lists.{length-take, length-drop, set-past, take-set-le, drop-set-lt, drop-set-add}
+use Rattle.std.proofs.shelf.Tests.{lt-ltb}
+use Rattle.std.proofs.shelf.Maps.{nth-read, nth-past}
+use Rattle.rows.specs.Cells.{readAt, writeAt, window, around}
+
+-- within and past the end: what closes most needs about one cell
+pub ruleset cells-laws = (nth-read, nth-past, set-past)
+
+pub length-window : {T : Type 0} (from most : ℕ) (xs : List T) → length (window from most xs) ≡ min most (length xs - from)
+length-window from most xs = length-take most (drop from xs) ∙ ap (min most) (length-drop from xs)
+
+pub nth-take : {T : Type 0} (n i : ℕ) (xs : List T) → i < n → nth (take n xs) i ≡ nth xs i
+nth-take zero i xs h = absurd (omega arith)
+nth-take (suc n) i [] h = refl
+nth-take (suc n) zero (x ∷ xs) h = refl
+nth-take (suc n) (suc i) (x ∷ xs) h = nth-take n i xs (omega arith)
+
+pub nth-window : {T : Type 0} (from most i : ℕ) (xs : List T) → i < most → nth (window from most xs) i ≡ nth xs (from + i)
+nth-window from most i xs h = nth-take most i (drop from xs) h ∙ nth-drop from xs i
+
+pub set-window : {T : Type 0} (from most i : ℕ) (xs : List T) (v : T) → i < most → window from most (set xs (from + i) v) ≡ set (window from most xs) i v
+set-window from most i xs v h = ap (take most) (drop-set-add from xs i v) ∙ take-set-lt most (drop from xs) i v h
+
+-- a place that the window shows lies in the row below
+pub window-within : {T : Type 0} (from most i : ℕ) (xs : List T) → i < length (window from most xs) → (i < most) × (from + i < length xs)
+window-within from most i xs h = let e = length-window from most xs in (omega arith, omega arith)
+
+pub window-read : {T : Type 0} (from most i : ℕ) (xs : List T) → i < length (window from most xs) → readAt xs (from + i) ≡ readAt (window from most xs) i
+window-read from most i xs h = rw (nth-window from most i xs (window-within from most i xs h .0))
+
+pub window-write : {T : Type 0} (from most i : ℕ) (xs : List T) → i < length (window from most xs) → writeAt xs (from + i) ≡ writeAt (window from most xs) i
+window-write from most i xs h = rw (lt-ltb _ _ h, lt-ltb _ _ (window-within from most i xs h .1))
+
+pub around-same : {O T : Type 0} (o p : O) (from most : ℕ) (xs ys : List T) → p ≡ o → ys ≡ xs → around p from most ys ≡ around o from most xs
+around-same o p from most xs ys eo ex = cc
+
+pub around-set : {O T : Type 0} (o p : O) (from most i : ℕ) (xs ys : List T) (v : T) → p ≡ o → i < most → ys ≡ set xs (from + i) v → around p from most ys ≡ around o from most xs
+around-set o p from most i xs ys v eo h ex =
+    let before : take from (set xs (from + i) v) ≡ take from xs = take-set-le from xs (from + i) v (omega arith) in
+    let behind : drop (from + most) (set xs (from + i) v) ≡ drop (from + most) xs = drop-set-lt (from + most) xs (from + i) v (omega arith) in
+    cc
