@@ -6,17 +6,49 @@ use Prim.Native.Nat.{ℕ, zero, suc, _+_, _-_, _<_, _≤_, min}
 use native.Mathlib.Nat.{min-le-left}
 use native.Mathlib.Omega.{arith}
 use lib.Dec.{ltb}
-use lib.ListN.{length, take, drop, set}
+use lib.ListN.{length, getD, take, drop, set}
 use lib.Seq.{take-set-lt}
 use Rattle.std.specs.Finite.{nth}
 use Rattle.std.proofs.iter.runs.Lists.{nth-drop}
-use Rattle.std.proofs.shelf.Lists.{length-take, length-drop, set-past, take-set-le, drop-set-lt, drop-set-add}
-use Rattle.std.proofs.shelf.Tests.{lt-ltb}
-use Rattle.std.proofs.shelf.Maps.{nth-read, nth-past}
+use Rattle.std.proofs.shelf.Lists.{getD-take, getD-drop, length-take, length-drop, set-past, take-set-le, drop-set-lt, drop-set-add}
+use Rattle.std.proofs.shelf.Tests.{lt-ltb, le-ltb}
+use Rattle.std.proofs.shelf.Maps.{nth-read, nth-past, nth-getD}
+use Rattle.std.specs.declared.result.Result.{Result}
+use Rattle.std.specs.declared.result.Result.the-variants.{Ok, Err}
+use Rattle.refusal.specs.declared.Refusal.{Refusal}
+use Rattle.refusal.specs.declared.Refusal.the-variants.{NoPlace}
 use Rattle.rows.specs.Cells.{readAt, writeAt, window, around}
 
 -- within and past the end: what closes most needs about one cell
 pub ruleset cells-laws = (nth-read, nth-past, set-past)
+
+-- the answers of reads and writes, within the cells and past them
+pub read-within : {T : Type 0} (xs : List T) (i : ℕ) (d : T) → i < length xs → readAt xs i ≡ Ok (getD xs i d)
+read-within xs i d h = rw (nth-getD xs i d h)
+
+pub read-past : {T : Type 0} (xs : List T) (i : ℕ) → length xs ≤ i → readAt xs i ≡ Err NoPlace
+read-past xs i h = rw (nth-past xs i h)
+
+pub write-within : {T : Type 0} (xs : List T) (i : ℕ) → i < length xs → writeAt xs i ≡ Ok tt
+write-within xs i h = rw (lt-ltb i (length xs) h)
+
+pub write-past : {T : Type 0} (xs : List T) (i : ℕ) → length xs ≤ i → writeAt xs i ≡ Err NoPlace
+write-past xs i h = rw (le-ltb i (length xs) h)
+
+-- what a read has answered
+pub read-gave : {T : Type 0} (xs : List T) (i : ℕ) (x : T) → Ok x ≡ readAt xs i → (i < length xs) × ((d : T) → x ≡ getD xs i d)
+read-gave [] i x e = absurd (never x NoPlace e)
+  where
+    never : {T E : Type 0} (x : T) (e : E) → _≡_ {A = Result T E} (Ok x) (Err e) → ⊥
+    never x e p = let z : _≡_ {A = ℕ} 0 1 = cc in omega arith
+read-gave (y ∷ ys) zero x e = (omega arith, λ d. cc)
+read-gave (y ∷ ys) (suc i) x e = let r = read-gave ys i x e in (omega arith, r .1)
+
+-- a read within the cells is not refused
+pub read-refused : {T : Type 0} (xs : List T) (i : ℕ) (e : Refusal) → Err e ≡ readAt xs i → i < length xs → ⊥
+read-refused [] i e p h = omega arith
+read-refused (y ∷ ys) zero e p h = let z : _≡_ {A = ℕ} 0 1 = cc in omega arith
+read-refused (y ∷ ys) (suc i) e p h = read-refused ys i e p (omega arith)
 
 pub length-window : {T : Type 0} (from most : ℕ) (xs : List T) → length (window from most xs) ≡ min most (length xs - from)
 length-window from most xs = length-take most (drop from xs) ∙ ap (min most) (length-drop from xs)
@@ -29,6 +61,9 @@ nth-take (suc n) (suc i) (x ∷ xs) h = nth-take n i xs (omega arith)
 
 pub nth-window : {T : Type 0} (from most i : ℕ) (xs : List T) → i < most → nth (window from most xs) i ≡ nth xs (from + i)
 nth-window from most i xs h = nth-take most i (drop from xs) h ∙ nth-drop from xs i
+
+pub getD-window : {T : Type 0} (from most i : ℕ) (xs : List T) (d : T) → i < most → getD (window from most xs) i d ≡ getD xs (from + i) d
+getD-window from most i xs d h = getD-take most (drop from xs) i d h ∙ getD-drop from xs i d
 
 pub set-window : {T : Type 0} (from most i : ℕ) (xs : List T) (v : T) → i < most → window from most (set xs (from + i) v) ≡ set (window from most xs) i v
 set-window from most i xs v h = ap (take most) (drop-set-add from xs i v) ∙ take-set-lt most (drop from xs) i v h

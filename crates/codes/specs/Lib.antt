@@ -1,0 +1,3 @@
+pub mod Little
+pub mod Kinds
+pub mod Packed
