@@ -1,6 +1,7 @@
 -- Laws of cells and windows, over lists alone.
 use mathlib.Core.Path.{_≡_, refl, sym, ap, _∙_}
 use mathlib.Core.Bool.{cond}
+use mathlib.Core.Logic.{⊎-elim}
 use mathlib.Core.List.{List, [], _∷_}
 use Prim.Native.Nat.{ℕ, zero, suc, _+_, _-_, _<_, _≤_, min}
 use native.Mathlib.Nat.{min-le-left}
@@ -11,7 +12,7 @@ use lib.Seq.{take-set-lt}
 use Rattle.std.specs.Finite.{nth}
 use Rattle.std.proofs.iter.runs.Lists.{nth-drop}
 use Rattle.std.proofs.shelf.Lists.{getD-take, getD-drop, length-take, length-drop, set-past, take-set-le, drop-set-lt, drop-set-add}
-use Rattle.std.proofs.shelf.Tests.{lt-ltb, le-ltb}
+use Rattle.std.proofs.shelf.Tests.{lt-ltb, le-ltb, cases-lt}
 use Rattle.std.proofs.shelf.Maps.{nth-read, nth-past, nth-getD}
 use Rattle.std.specs.declared.result.Result.{Result}
 use Rattle.std.specs.declared.result.Result.the-variants.{Ok, Err}
@@ -49,6 +50,14 @@ pub read-refused : {T : Type 0} (xs : List T) (i : ℕ) (e : Refusal) → Err e 
 read-refused [] i e p h = omega arith
 read-refused (y ∷ ys) zero e p h = let z : _≡_ {A = ℕ} 0 1 = cc in omega arith
 read-refused (y ∷ ys) (suc i) e p h = read-refused ys i e p (omega arith)
+
+-- a refused write had no such place, and so changes nothing
+pub write-refused : {T : Type 0} (xs : List T) (i : ℕ) (e : Refusal) → Err e ≡ writeAt xs i → length xs ≤ i
+write-refused xs i e p =
+    ⊎-elim
+    (λ (lt : i < length xs). let ok = p ∙ write-within xs i lt in let z : _≡_ {A = ℕ} 0 1 = cc in absurd (omega arith))
+    (λ le. le)
+    (cases-lt i (length xs))
 
 pub length-window : {T : Type 0} (from most : ℕ) (xs : List T) → length (window from most xs) ≡ min most (length xs - from)
 length-window from most xs = length-take most (drop from xs) ∙ ap (min most) (length-drop from xs)
