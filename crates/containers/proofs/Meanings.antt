@@ -21,12 +21,17 @@ use Rattle.refusal.specs.declared.Refusal.{Refusal}
 use Rattle.refusal.specs.declared.Refusal.the-variants.{PlacePastLength, NoSpace, NoCell, NoPlace}
 use Rattle.rows.specs.Cells.{readAt, writeAt}
 use Rattle.rows.proofs.Cells.{write-within}
-use Rattle.containers.specs.Queues.{QueueState, Backed, Means, placeOf, contents, pushed, popped, overflowed, latest, pushAnswer, oldestAnswer, overflowAnswer, getAnswer, appendAnswer, appended, displaced}
+use Rattle.containers.specs.Bounded.{Means, latest, appendAnswer, appended, displaced}
+use Rattle.containers.specs.Queues.{QueueState, Backed, placeOf, contents, pushed, popped, overflowed, pushAnswer, oldestAnswer, overflowAnswer, getAnswer}
 use Rattle.containers.proofs.Rounds.{length-contents, nth-contents, nth-some, contents-pushed, contents-popped, pushed-backed, wrap-below}
 
 -- a found element is answered alike whatever its absence would have been
-okOr-some : {T E : Type 0} (o : Option T) (x : T) (d e : E) → o ≡ Some x → okOr o d ≡ okOr o e
+pub okOr-some : {T E : Type 0} (o : Option T) (x : T) (d e : E) → o ≡ Some x → okOr o d ≡ okOr o e
 okOr-some o x d e h = ap (λ p. okOr p d) h ∙ sym (ap (λ p. okOr p e) h)
+
+-- and then a read gives it
+pub some-read : {T : Type 0} (o : Option T) (x : T) → o ≡ Some x → mapped Some (λ (e : Refusal). e) (okOr o NoPlace) ≡ Ok o
+some-read o x h = ap (λ p. mapped Some (λ (e : Refusal). e) (okOr p NoPlace)) h ∙ ap Ok (sym h)
 
 module _ {T : Type 0} (q : QueueState T) (begins : q .start ≤ q .capacity - 1) (within : q .len ≤ q .capacity) (backed : Backed q) where
   sized : length (contents q) ≡ q .len
@@ -48,9 +53,6 @@ module _ {T : Type 0} (q : QueueState T) (begins : q .start ≤ q .capacity - 1)
       cond-false _ _ _ (le-ltb i (q .len) le)
       ∙ ap (λ o. okOr o PlacePastLength) (sym (nth-past (contents q) i (omega (arith, sized)))))
       (cases-lt i (q .len))
-
-  some-read : (o : Option T) (x : T) → o ≡ Some x → mapped Some (λ (e : Refusal). e) (okOr o NoPlace) ≡ Ok o
-  some-read o x h = ap (λ p. mapped Some (λ (e : Refusal). e) (okOr p NoPlace)) h ∙ ap Ok (sym h)
 
   pub oldest-answer : oldestAnswer q ≡ Ok (nth (contents q) 0)
   oldest-answer =
@@ -77,19 +79,19 @@ module _ {T : Type 0} (q : QueueState T) (begins : q .start ≤ q .capacity - 1)
       ∙ sym (cond-false _ _ _ (le-ltb (length (contents q)) (q .capacity) (omega (arith, sized)))))
       (cases-lt (q .len) (q .capacity))
 
-  pub get-means : (i : ℕ) (r : Result T Refusal) (q′ : QueueState T) → r ≡ getAnswer q i → q′ ≡ q → Means q r q′ (λ xs. okOr (nth xs i) PlacePastLength) (λ xs. xs)
+  pub get-means : (i : ℕ) (r : Result T Refusal) (q′ : QueueState T) → r ≡ getAnswer q i → q′ ≡ q → Means contents Backed q r q′ (λ xs. okOr (nth xs i) PlacePastLength) (λ xs. xs)
   get-means i r q′ er eq = record { value = er ∙ get-answer i; holds = ap contents eq; backed = subst Backed (sym eq) backed }
 
-  pub peek-means : (r : Result (Option T) Refusal) (q′ : QueueState T) → r ≡ oldestAnswer q → q′ ≡ q → Means q r q′ (λ xs. Ok (nth xs 0)) (λ xs. xs)
+  pub peek-means : (r : Result (Option T) Refusal) (q′ : QueueState T) → r ≡ oldestAnswer q → q′ ≡ q → Means contents Backed q r q′ (λ xs. Ok (nth xs 0)) (λ xs. xs)
   peek-means r q′ er eq = record { value = er ∙ oldest-answer; holds = ap contents eq; backed = subst Backed (sym eq) backed }
 
-  pub pop-means : (r : Result (Option T) Refusal) (q′ : QueueState T) → r ≡ oldestAnswer q → q′ ≡ cond (isOk r) (popped q) q → Means q r q′ (λ xs. Ok (nth xs 0)) (drop 1)
+  pub pop-means : (r : Result (Option T) Refusal) (q′ : QueueState T) → r ≡ oldestAnswer q → q′ ≡ cond (isOk r) (popped q) q → Means contents Backed q r q′ (λ xs. Ok (nth xs 0)) (drop 1)
   pop-means r q′ er eq =
       let ok = er ∙ oldest-answer in
       let now : q′ ≡ popped q = eq ∙ ap (λ s. cond (isOk s) (popped q) q) ok in
       record { value = ok; holds = ap contents now ∙ contents-popped q begins within backed; backed = subst Backed (sym now) backed }
 
-  pub push-means : (v : T) (r : Result (Unit {0}) Refusal) (q′ : QueueState T) → r ≡ pushAnswer q → q′ ≡ cond (isOk r) (pushed q v) q → Means q r q′ (appendAnswer (q .capacity)) (appended (q .capacity) v)
+  pub push-means : (v : T) (r : Result (Unit {0}) Refusal) (q′ : QueueState T) → r ≡ pushAnswer q → q′ ≡ cond (isOk r) (pushed q v) q → Means contents Backed q r q′ (appendAnswer (q .capacity)) (appended (q .capacity) v)
   push-means v r q′ er eq =
       let ok = er ∙ push-answer in
       ⊎-elim
@@ -135,7 +137,7 @@ module _ {T : Type 0} (q : QueueState T) (begins : q .start ≤ q .capacity - 1)
   -- the three ways of a push with overflow
   module _ (v : T) (r : Result (Option T) Refusal) (q′ : QueueState T) (er : r ≡ overflowAnswer q) (eq : q′ ≡ cond (isOk r) (overflowed q v) q) where
     Overflows : Type 0
-    Overflows = Means q r q′ (displaced (q .capacity)) (λ xs. latest (q .capacity) (xs ++ (v ∷ [])))
+    Overflows = Means contents Backed q r q′ (displaced (q .capacity)) (λ xs. latest (q .capacity) (xs ++ (v ∷ [])))
 
     no-cell : q .capacity ≡ 0 → Overflows
     unfolding Overflows
@@ -183,7 +185,7 @@ module _ {T : Type 0} (q : QueueState T) (begins : q .start ≤ q .capacity - 1)
           backed = subst Backed (sym now) (pushed-backed (popped q) begins (omega arith) backed v);
         }
 
-    pub overflow-means : Means q r q′ (displaced (q .capacity)) (λ xs. latest (q .capacity) (xs ++ (v ∷ [])))
+    pub overflow-means : Means contents Backed q r q′ (displaced (q .capacity)) (λ xs. latest (q .capacity) (xs ++ (v ∷ [])))
     unfolding Overflows
     overflow-means =
         ⊎-elim no-cell

@@ -1,5 +1,4 @@
 -- A queue by its registers and the cells of its row, and what its calls answer and change.
-use mathlib.Core.Path.{_≡_}
 use mathlib.Core.Bool.{cond}
 use mathlib.Core.List.{List, [], _∷_, _++_}
 use Prim.Native.Nat.{ℕ, _+_, _-_, _%_, _≤_}
@@ -70,10 +69,6 @@ popped q = record { capacity = q .capacity; start = q .start; len = q .len - 1; 
 abbrev pub cleared : {T : Type 0} → QueueState T → QueueState T
 cleared q = record { capacity = q .capacity; start = q .start; len = 0; cells = q .cells }
 
--- the last n elements of a list
-abbrev pub latest : {T : Type 0} → ℕ → List T → List T
-latest n xs = drop (length xs - n) xs
-
 -- What a call answers and changes by its cells, whatever those are. A row that refuses all the same is
 -- passed on as it is: no such place.
 
@@ -100,21 +95,3 @@ overflowed q v = cond (ltb (q .len) (q .capacity)) (pushed q v) (pushed (popped 
 -- an element below the length is read at its place
 abbrev pub getAnswer : {T : Type 0} → QueueState T → ℕ → Result T Refusal
 getAnswer q i = cond (ltb i (q .len)) (readAt (q .cells) (placeOf q i)) (Err PlacePastLength)
-
--- What a call means over a row that has a cell for each place: its answer, and the contents afterwards,
--- from the contents before.
-pub record Means {T A : Type 0} (q : QueueState T) (r : A) (q′ : QueueState T) (answer : List T → A) (after : List T → List T) : Type 0 where
-  pub value : r ≡ answer (contents q)
-  pub holds : contents q′ ≡ after (contents q)
-  pub backed : Backed q′
-
--- a list that may have at most c elements: whether one more has space, and the list with it
-abbrev pub appendAnswer : {T : Type 0} → ℕ → List T → Result (Unit {0}) Refusal
-appendAnswer c xs = cond (ltb (length xs) c) (Ok tt) (Err NoSpace)
-
-abbrev pub appended : {T : Type 0} → ℕ → T → List T → List T
-appended c v xs = cond (ltb (length xs) c) (xs ++ (v ∷ [])) xs
-
--- the element that has to go for another, if there is no space beside it
-abbrev pub displaced : {T : Type 0} → ℕ → List T → Result (Option T) Refusal
-displaced c xs = cond (eqb c 0) (Err NoCell) (Ok (cond (ltb (length xs) c) None (nth xs 0)))

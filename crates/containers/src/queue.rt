@@ -10,7 +10,8 @@ ghost use Rattle.std.specs.Options.{okOr};
 ghost use Rattle.std.specs.Results.{isOk};
 ghost use Rattle.std.specs.declared.result.Result.the-variants.{Ok};
 ghost use Rattle.refusal.specs.declared.Refusal.the-variants.{PlacePastLength};
-ghost use Rattle.containers.specs.Queues.{queue, contents, empty, cleared, Backed, Means, pushed, popped, overflowed, latest, pushAnswer, oldestAnswer, overflowAnswer, getAnswer, appendAnswer, appended, displaced};
+ghost use Rattle.containers.specs.Bounded.{Means, appendAnswer, appended, displaced, latest};
+ghost use Rattle.containers.specs.Queues.{queue, contents, empty, cleared, Backed, pushed, popped, overflowed, pushAnswer, oldestAnswer, overflowAnswer, getAnswer};
 use crate::capacity::fitting;
 use crate::position::Position;
 use refusal::Refusal;
@@ -58,7 +59,7 @@ impl<R: Row> MetaQueue<R> {
     pub fn get(&mut self, index: usize) -> Result<R::Item, Refusal>
         ensures value { λ r. ⌜ r ≡ getAnswer (queue (R·Row .cells) (now (self .entry))) index ⌝ }
         ensures same { λ _. ⌜ (queue (R·Row .cells) (now (self .exit))) ≡ (queue (R·Row .cells) (now (self .entry))) ⌝ }
-        ensures means { λ r. ⌜ (Backed (queue (R·Row .cells) (now (self .entry))) → Means (queue (R·Row .cells) (now (self .entry))) r (queue (R·Row .cells) (now (self .exit))) (λ xs. okOr (nth xs index) PlacePastLength) (λ xs. xs)) ⌝ }
+        ensures means { λ r. ⌜ (Backed (queue (R·Row .cells) (now (self .entry))) → Means contents Backed (queue (R·Row .cells) (now (self .entry))) r (queue (R·Row .cells) (now (self .exit))) (λ xs. okOr (nth xs index) PlacePastLength) (λ xs. xs)) ⌝ }
         ensures beside { λ _. ⌜ R·Row .outside (now (self .exit) .row) ≡ R·Row .outside (now (self .entry) .row) ⌝ }
     {
         self.get_impl(index)
@@ -107,7 +108,7 @@ impl<R: Row> MetaQueue<R> {
     pub fn peek(&mut self) -> Result<Option<R::Item>, Refusal>
         ensures value { λ r. ⌜ r ≡ oldestAnswer (queue (R·Row .cells) (now (self .entry))) ⌝ }
         ensures same { λ _. ⌜ (queue (R·Row .cells) (now (self .exit))) ≡ (queue (R·Row .cells) (now (self .entry))) ⌝ }
-        ensures means { λ r. ⌜ (Backed (queue (R·Row .cells) (now (self .entry))) → Means (queue (R·Row .cells) (now (self .entry))) r (queue (R·Row .cells) (now (self .exit))) (λ xs. Ok (nth xs 0)) (λ xs. xs)) ⌝ }
+        ensures means { λ r. ⌜ (Backed (queue (R·Row .cells) (now (self .entry))) → Means contents Backed (queue (R·Row .cells) (now (self .entry))) r (queue (R·Row .cells) (now (self .exit))) (λ xs. Ok (nth xs 0)) (λ xs. xs)) ⌝ }
         ensures beside { λ _. ⌜ R·Row .outside (now (self .exit) .row) ≡ R·Row .outside (now (self .entry) .row) ⌝ }
     {
         self.peek_impl()
@@ -117,7 +118,7 @@ impl<R: Row> MetaQueue<R> {
     pub fn pop(&mut self) -> Result<Option<R::Item>, Refusal>
         ensures value { λ r. ⌜ r ≡ oldestAnswer (queue (R·Row .cells) (now (self .entry))) ⌝ }
         ensures after { λ r. ⌜ (queue (R·Row .cells) (now (self .exit))) ≡ cond (isOk r) (popped (queue (R·Row .cells) (now (self .entry)))) (queue (R·Row .cells) (now (self .entry))) ⌝ }
-        ensures means { λ r. ⌜ (Backed (queue (R·Row .cells) (now (self .entry))) → Means (queue (R·Row .cells) (now (self .entry))) r (queue (R·Row .cells) (now (self .exit))) (λ xs. Ok (nth xs 0)) (drop 1)) ⌝ }
+        ensures means { λ r. ⌜ (Backed (queue (R·Row .cells) (now (self .entry))) → Means contents Backed (queue (R·Row .cells) (now (self .entry))) r (queue (R·Row .cells) (now (self .exit))) (λ xs. Ok (nth xs 0)) (drop 1)) ⌝ }
         ensures beside { λ _. ⌜ R·Row .outside (now (self .exit) .row) ≡ R·Row .outside (now (self .entry) .row) ⌝ }
     {
         self.pop_impl()
@@ -127,7 +128,7 @@ impl<R: Row> MetaQueue<R> {
     pub fn push(&mut self, value: R::Item) -> Result<(), Refusal>
         ensures value { λ r. ⌜ r ≡ pushAnswer (queue (R·Row .cells) (now (self .entry))) ⌝ }
         ensures after { λ r. ⌜ (queue (R·Row .cells) (now (self .exit))) ≡ cond (isOk r) (pushed (queue (R·Row .cells) (now (self .entry))) value) (queue (R·Row .cells) (now (self .entry))) ⌝ }
-        ensures means { λ r. ⌜ (Backed (queue (R·Row .cells) (now (self .entry))) → Means (queue (R·Row .cells) (now (self .entry))) r (queue (R·Row .cells) (now (self .exit))) (appendAnswer ((queue (R·Row .cells) (now (self .entry))) .capacity)) (appended ((queue (R·Row .cells) (now (self .entry))) .capacity) value)) ⌝ }
+        ensures means { λ r. ⌜ (Backed (queue (R·Row .cells) (now (self .entry))) → Means contents Backed (queue (R·Row .cells) (now (self .entry))) r (queue (R·Row .cells) (now (self .exit))) (appendAnswer ((queue (R·Row .cells) (now (self .entry))) .capacity)) (appended ((queue (R·Row .cells) (now (self .entry))) .capacity) value)) ⌝ }
         ensures beside { λ _. ⌜ R·Row .outside (now (self .exit) .row) ≡ R·Row .outside (now (self .entry) .row) ⌝ }
     {
         self.push_impl(value)
@@ -138,7 +139,7 @@ impl<R: Row> MetaQueue<R> {
     pub fn push_with_overflow(&mut self, value: R::Item) -> Result<Option<R::Item>, Refusal>
         ensures value { λ r. ⌜ r ≡ overflowAnswer (queue (R·Row .cells) (now (self .entry))) ⌝ }
         ensures after { λ r. ⌜ (queue (R·Row .cells) (now (self .exit))) ≡ cond (isOk r) (overflowed (queue (R·Row .cells) (now (self .entry))) value) (queue (R·Row .cells) (now (self .entry))) ⌝ }
-        ensures means { λ r. ⌜ (Backed (queue (R·Row .cells) (now (self .entry))) → Means (queue (R·Row .cells) (now (self .entry))) r (queue (R·Row .cells) (now (self .exit))) (displaced ((queue (R·Row .cells) (now (self .entry))) .capacity)) (λ xs. latest ((queue (R·Row .cells) (now (self .entry))) .capacity) (xs ++ (value ∷ [])))) ⌝ }
+        ensures means { λ r. ⌜ (Backed (queue (R·Row .cells) (now (self .entry))) → Means contents Backed (queue (R·Row .cells) (now (self .entry))) r (queue (R·Row .cells) (now (self .exit))) (displaced ((queue (R·Row .cells) (now (self .entry))) .capacity)) (λ xs. latest ((queue (R·Row .cells) (now (self .entry))) .capacity) (xs ++ (value ∷ [])))) ⌝ }
         ensures beside { λ _. ⌜ R·Row .outside (now (self .exit) .row) ≡ R·Row .outside (now (self .entry) .row) ⌝ }
     {
         self.push_with_overflow_impl(value)

@@ -14,6 +14,7 @@ use Rattle.std.proofs.iter.runs.Lists.{nth-drop}
 use Rattle.std.proofs.shelf.Lists.{getD-take, getD-drop, length-take, length-drop, set-past, take-set-le, drop-set-lt, drop-set-add}
 use Rattle.std.proofs.shelf.Tests.{lt-ltb, le-ltb, cases-lt}
 use Rattle.std.proofs.shelf.Maps.{nth-read, nth-past, nth-getD}
+use Rattle.std.specs.Results.{isOk}
 use Rattle.std.specs.declared.result.Result.{Result}
 use Rattle.std.specs.declared.result.Result.the-variants.{Ok, Err}
 use Rattle.refusal.specs.declared.Refusal.{Refusal}
@@ -57,6 +58,13 @@ write-refused xs i e p =
     ⊎-elim
     (λ (lt : i < length xs). let ok = p ∙ write-within xs i lt in let z : _≡_ {A = ℕ} 0 1 = cc in absurd (omega arith))
     (λ le. le)
+    (cases-lt i (length xs))
+
+pub write-when-ok : {T : Type 0} (xs : List T) (i : ℕ) (x : T) (r : Result (Unit {0}) Refusal) → r ≡ writeAt xs i → set xs i x ≡ cond (isOk r) (set xs i x) xs
+write-when-ok xs i x r e =
+    ⊎-elim
+    (λ (lt : i < length xs). sym (ap (λ s. cond (isOk s) (set xs i x) xs) (e ∙ write-within xs i lt)))
+    (λ (le : length xs ≤ i). set-past xs i x le ∙ sym (ap (λ s. cond (isOk s) (set xs i x) xs) (e ∙ write-past xs i le)))
     (cases-lt i (length xs))
 
 pub length-window : {T : Type 0} (from most : ℕ) (xs : List T) → length (window from most xs) ≡ min most (length xs - from)
