@@ -60,8 +60,7 @@ fn scatter<A: ByteArray, B: Row<Item = u8>>(bytes: &mut B, at: usize, string: A)
 impl<K: Coded, B: Row<Item = u8>> PackedRow<K, B> {
     pub fn new(bytes: B) -> Self
         ensures cells { λ r. ⌜ packed (Bytes·ByteArray .size) (K·Coded .item) (B·Row .cells (r .bytes)) ≡ packed (Bytes·ByteArray .size) (K·Coded .item) (B·Row .cells bytes) ⌝ }
-        ensures below { λ r. ⌜ B·Row .cells (r .bytes) ≡ B·Row .cells bytes ⌝ }
-        ensures outside { λ r. ⌜ B·Row .outside (r .bytes) ≡ B·Row .outside bytes ⌝ }
+        ensures row { λ r. ⌜ r .bytes ≡ bytes ⌝ }
     {
         PackedRow {
             bytes,
@@ -71,8 +70,8 @@ impl<K: Coded, B: Row<Item = u8>> PackedRow<K, B> {
 
     // The row of bytes below, with all its bytes.
     pub fn into_row(self) -> B
-        ensures below { λ r. ⌜ B·Row .cells r ≡ B·Row .cells (self .bytes) ⌝ }
-        ensures outside { λ r. ⌜ B·Row .outside r ≡ B·Row .outside (self .bytes) ⌝ }
+        ensures row { λ r. ⌜ r ≡ self .bytes ⌝ }
+        ensures cells { λ r. ⌜ B·Row .cells r ≡ B·Row .cells (self .bytes) ⌝ }
     {
         let PackedRow { bytes, kind: _ } = self;
         bytes

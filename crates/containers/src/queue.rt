@@ -48,8 +48,8 @@ impl<R: Row> MetaQueue<R> {
 
     // The row below, with all its cells.
     pub fn into_row(self) -> R
+        ensures row { λ r. ⌜ r ≡ self .row ⌝ }
         ensures cells { λ r. ⌜ R·Row .cells r ≡ R·Row .cells (self .row) ⌝ }
-        ensures beside { λ r. ⌜ R·Row .outside r ≡ R·Row .outside (self .row) ⌝ }
     {
         let MetaQueue { row, position: _ } = self;
         row

@@ -29,16 +29,17 @@ impl<R: Row> WindowRow<R> {
     // From past the end there are none.
     pub fn new(row: R, from: usize, most: usize) -> Self
         ensures cells { λ r. ⌜ window (r .from) (r .most) (R·Row .cells (r .row)) ≡ window from most (R·Row .cells row) ⌝ }
-        ensures below { λ r. ⌜ R·Row .cells (r .row) ≡ R·Row .cells row ⌝ }
-        ensures outside { λ r. ⌜ R·Row .outside (r .row) ≡ R·Row .outside row ⌝ }
+        ensures row { λ r. ⌜ r .row ≡ row ⌝ }
+        ensures from { λ r. ⌜ r .from ≡ from ⌝ }
+        ensures most { λ r. ⌜ r .most ≡ most ⌝ }
     {
         WindowRow { row, from, most }
     }
 
     // The row below, with all its cells.
     pub fn into_row(self) -> R
-        ensures below { λ r. ⌜ R·Row .cells r ≡ R·Row .cells (self .row) ⌝ }
-        ensures outside { λ r. ⌜ R·Row .outside r ≡ R·Row .outside (self .row) ⌝ }
+        ensures row { λ r. ⌜ r ≡ self .row ⌝ }
+        ensures cells { λ r. ⌜ R·Row .cells r ≡ R·Row .cells (self .row) ⌝ }
     {
         let WindowRow {
             row,
