@@ -1,3 +1,4 @@
+pub mod Latest
 pub mod Rounds
 pub mod Meanings
 pub mod Vectors

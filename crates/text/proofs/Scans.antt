@@ -28,14 +28,14 @@ pub scan-is : (n : ℕ) (cs : List ℕ) → scan n cs ≡ whenTrue (allDigits cs
 scan-is n [] = refl
 scan-is n (c ∷ cs) =
     ⊎-elim
-      (λ (yes-digit : asciiDigit c ≡ true).
-        cond-true _ _ _ yes-digit
-        ∙ scan-is (n * 10 + digitValue c) cs
-        ∙ sym (ap (λ b. whenTrue (b && allDigits cs) (valueAfter 10 (n * 10 + digitValue c) cs)) yes-digit))
-      (λ (no-digit : asciiDigit c ≡ false).
-        cond-false _ _ _ no-digit
-        ∙ sym (ap (λ b. whenTrue (b && allDigits cs) (valueAfter 10 (n * 10 + digitValue c) cs)) no-digit))
-      (cases-bool (asciiDigit c))
+    (λ (yes-digit : asciiDigit c ≡ true).
+    cond-true _ _ _ yes-digit
+    ∙ scan-is (n * 10 + digitValue c) cs
+    ∙ sym (ap (λ b. whenTrue (b && allDigits cs) (valueAfter 10 (n * 10 + digitValue c) cs)) yes-digit))
+    (λ (no-digit : asciiDigit c ≡ false).
+    cond-false _ _ _ no-digit
+    ∙ sym (ap (λ b. whenTrue (b && allDigits cs) (valueAfter 10 (n * 10 + digitValue c) cs)) no-digit))
+    (cases-bool (asciiDigit c))
 
 -- a digit writes its distance from 0
 pub digit-value : (c : ℕ) → 48 ≤ c → c ≤ 57 → digitValue c ≡ c - 48
@@ -81,7 +81,7 @@ pub number-some : (line : List ℕ) (v : ℕ) → scan 0 line ≡ Some v → 0 <
 number-some line v e some few small =
     let read = whenTrue-some (allDigits line) (value 10 line) v (sym (scan-is 0 line) ∙ e) in
     let legal : isNumber line ≡ true
-          = and-from _ _ (and-from _ _ (lt-ltb 0 (length line) some) (le-leb (length line) 10 few)) (and-from _ _ (read .0) (le-leb (value 10 line) 4294967295 (omega arith))) in
+    = and-from _ _ (and-from _ _ (lt-ltb 0 (length line) some) (le-leb (length line) 10 few)) (and-from _ _ (read .0) (le-leb (value 10 line) 4294967295 (omega arith))) in
     ap Some (sym (read .1)) ∙ sym (ap (λ b. whenTrue b (value 10 line)) legal)
 
 pub number-large : (line : List ℕ) (v : ℕ) → scan 0 line ≡ Some v → 4294967295 < v → None ≡ numberOf line

@@ -22,10 +22,9 @@ add-value c = omega (arith, digits-fit (c .loop-byte .value) (c .loop-byte .byte
 
 pub loop-byte-again : need.loop-byte-again
 loop-byte-again c =
-    let digit = c .if-not-is-ascii-digit .ensures tt .cases in
-    (
+    let digit = c .if-not-is-ascii-digit .ensures tt .cases in (
       sym (scan-more (c .loop-byte .value) (c .args .line .now) (c .loop-byte .byte-index) (c .loop-byte-test .taken) (digit .0) (digit .1)) ∙ c .loop-byte .inv .0,
-      digits-more (c .loop-byte .value) (c .loop-byte .byte-index) _ (c .loop-byte .inv .1) (omega arith)
+      digits-more (c .loop-byte .value) (c .loop-byte .byte-index) _ (c .loop-byte .inv .1) (omega arith),
     )
 
 pub returns-then-value : need.returns-then-value
