@@ -18,3 +18,5 @@ pub use packed::PackedRow;
 pub use packed::PackedRowRow;
 pub use voice::Voice;
 pub use voice::VoiceCoded;
+pub use voice::VoiceDebug;
+pub use voice::VoicePartialEq;

@@ -6,6 +6,8 @@ mod slice;
 mod window;
 
 pub use cell::FreeListEntry;
+pub use cell::FreeListEntryDebug;
+pub use cell::FreeListEntryPartialEq;
 pub use cell::NONE;
 pub use inline::InlineRow;
 pub use inline::InlineRowRow;
