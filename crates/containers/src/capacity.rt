@@ -6,7 +6,7 @@ ghost use Prim.Native.Nat.{min};
 const MOST: u32 = 65_535;
 
 // The least of the asked capacity, 65,535 and the row's count.
-pub fn fitting(asked: u32, count: usize) -> u32
+pub(crate) fn fitting(asked: u32, count: usize) -> u32
     ensures { λ r. ⌜ r ≡ min (min asked 65535) count ⌝ }
 {
     let most = asked.min(MOST);

@@ -4,7 +4,7 @@ ghost use Prim.Native.Nat.{_+_, _-_, _<_, _≤_};
 
 // An extent that breaks the facts below cannot be made.
 #[derive(Clone, Copy)]
-pub struct Extent {
+pub(crate) struct Extent {
     pub capacity: u32,
     pub len: u32,
     ghost small: { capacity ≤ 65535 },
@@ -13,7 +13,7 @@ pub struct Extent {
 
 impl Extent {
     // The same capacity, and another length.
-    pub fn resized(self, len: u32) -> Extent
+    pub(crate) fn resized(self, len: u32) -> Extent
         requires { ⌜ len ≤ self .capacity ⌝ }
         ensures capacity { λ r. ⌜ r .capacity ≡ self .capacity ⌝ }
         ensures len { λ r. ⌜ r .len ≡ len ⌝ }

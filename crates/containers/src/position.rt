@@ -5,7 +5,7 @@ ghost use Prim.Native.Nat.{_+_, _-_, _%_, _<_, _≤_};
 // `len` elements lie before place `start`, round the ring of `capacity` places. A position
 // that breaks the facts below cannot be made.
 #[derive(Clone, Copy)]
-pub struct Position {
+pub(crate) struct Position {
     pub capacity: u32,
     pub start: u32,
     pub len: u32,
@@ -16,7 +16,7 @@ pub struct Position {
 
 impl Position {
     // A ring of which no place is used yet.
-    pub fn unused(capacity: u32) -> Position
+    pub(crate) fn unused(capacity: u32) -> Position
         requires { ⌜ capacity ≤ 65535 ⌝ }
         ensures capacity { λ r. ⌜ r .capacity ≡ capacity ⌝ }
         ensures start { λ r. ⌜ r .start ≡ 0 ⌝ }
@@ -30,7 +30,7 @@ impl Position {
     }
 
     // The place of the element `index` from the oldest.
-    pub fn place_of(self, index: u32) -> u32
+    pub(crate) fn place_of(self, index: u32) -> u32
         requires { ⌜ index < self .len ⌝ }
         ensures value { λ r. ⌜ r ≡ (self .start + self .capacity - self .len + index) % self .capacity ⌝ }
         ensures bound { λ r. ⌜ r < self .capacity ⌝ }
@@ -53,7 +53,7 @@ impl Position {
     }
 
     // One element more, at `start`.
-    pub fn pushed(self) -> Position
+    pub(crate) fn pushed(self) -> Position
         requires { ⌜ self .len < self .capacity ⌝ }
         ensures capacity { λ r. ⌜ r .capacity ≡ self .capacity ⌝ }
         ensures start { λ r. ⌜ r .start ≡ (self .start + 1) % self .capacity ⌝ }
@@ -67,7 +67,7 @@ impl Position {
     }
 
     // The oldest element is gone.
-    pub fn popped(self) -> Position
+    pub(crate) fn popped(self) -> Position
         requires { ⌜ 0 < self .len ⌝ }
         ensures capacity { λ r. ⌜ r .capacity ≡ self .capacity ⌝ }
         ensures start { λ r. ⌜ r .start ≡ self .start ⌝ }
@@ -81,7 +81,7 @@ impl Position {
     }
 
     // No element is left.
-    pub fn cleared(self) -> Position
+    pub(crate) fn cleared(self) -> Position
         ensures capacity { λ r. ⌜ r .capacity ≡ self .capacity ⌝ }
         ensures start { λ r. ⌜ r .start ≡ self .start ⌝ }
         ensures len { λ r. ⌜ r .len ≡ 0 ⌝ }

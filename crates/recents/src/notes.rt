@@ -60,7 +60,7 @@ fn note<R: Row<Item = u32>>(
 }
 
 // Queues the numbers that the lines of `text` write, and complains of the other lines.
-pub fn note_lines<R: Row<Item = u32>>(
+pub(crate) fn note_lines<R: Row<Item = u32>>(
     heap: Global,
     queue: &mut MetaQueue<R>,
     err: &mut String,
@@ -94,7 +94,7 @@ fn take_oldest<R: Row<Item = u32>>(queue: &mut MetaQueue<R>) -> Option<u32>
 }
 
 // Takes the numbers out of the queue and prints them, oldest first.
-pub fn print_numbers<R: Row<Item = u32>>(
+pub(crate) fn print_numbers<R: Row<Item = u32>>(
     heap: Global,
     queue: &mut MetaQueue<R>,
     out: &mut String,
