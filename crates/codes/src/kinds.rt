@@ -1,5 +1,4 @@
 // The plain numbers: a byte, a number and a deadline.
-ghost use mathlib.Core.Path.{_≡_};
 ghost use Rattle.codes.specs.Little.{littleBytes, littleAt};
 use crate::bytes::ArrayBytes;
 use crate::coded::Coded;

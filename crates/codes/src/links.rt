@@ -1,5 +1,4 @@
 // The byte form of a link pair: previous, then next.
-ghost use mathlib.Core.Path.{_≡_};
 ghost use Rattle.codes.specs.Kinds.{linkBytes, linkItem};
 use crate::bytes::ArrayBytes;
 use crate::coded::Coded;

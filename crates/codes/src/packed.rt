@@ -1,9 +1,11 @@
 // A row of any coded kind over any row of bytes.
 ghost use mathlib.Core.Path.{_≡_};
-ghost use Prim.Native.Nat.{_+_, _/_, _<_, _≤_, _^_};
-ghost use lib.ListN.{length};
+ghost use mathlib.Core.Bool.{cond};
+ghost use Prim.Native.Nat.{_+_, _*_, _/_, _<_, _≤_, _^_};
+ghost use lib.ListN.{length, set};
 ghost use lib.Seq.{paste};
-ghost use Rattle.rows.specs.Cells.{window};
+ghost use Rattle.std.specs.Results.{isOk};
+ghost use Rattle.rows.specs.Cells.{window, writeAt};
 ghost use Rattle.codes.specs.Packed.{packed, Behind, behind};
 use crate::bytes::ByteArray;
 use crate::coded::Coded;
@@ -24,6 +26,7 @@ fn whole<K: Coded, B: Row<Item = u8>>(bytes: &mut B) -> usize
     ensures fits { λ _. ⌜ length (B·Row .cells (now (bytes .entry))) < 2 ^ 64 ⌝ }
     ensures some { λ _. ⌜ 0 < Bytes·ByteArray .size ⌝ }
     ensures same { λ _. ⌜ B·Row .cells (now (bytes .exit)) ≡ B·Row .cells (now (bytes .entry)) ⌝ }
+    ensures untouched { λ _. ⌜ B·Row .stored (now (bytes .exit)) ≡ B·Row .stored (now (bytes .entry)) ⌝ }
     ensures beside { λ _. ⌜ B·Row .outside (now (bytes .exit)) ≡ B·Row .outside (now (bytes .entry)) ⌝ }
 {
     bytes.count() / K::width() as usize
@@ -34,6 +37,7 @@ fn gather<A: ByteArray, B: Row<Item = u8>>(bytes: &mut B, at: usize) -> A
     requires { ⌜ at + A·ByteArray .size ≤ length (B·Row .cells (now bytes)) ⌝ ∗ ⌜ length (B·Row .cells (now bytes)) < 2 ^ 64 ⌝ }
     ensures value { λ r. ⌜ A·ByteArray .list r ≡ window at (A·ByteArray .size) (B·Row .cells (now (bytes .entry))) ⌝ }
     ensures same { λ _. ⌜ B·Row .cells (now (bytes .exit)) ≡ B·Row .cells (now (bytes .entry)) ⌝ }
+    ensures untouched { λ _. ⌜ B·Row .stored (now (bytes .exit)) ≡ B·Row .stored (now (bytes .entry)) ⌝ }
     ensures beside { λ _. ⌜ B·Row .outside (now (bytes .exit)) ≡ B·Row .outside (now (bytes .entry)) ⌝ }
 {
     let mut string = A::zeros();
@@ -87,6 +91,10 @@ pub impl<K: Coded, B: Row<Item = u8>> Row for PackedRow<K, B> as PackedRowRow {
 
     ghost outside = { λ s. behind (B·Row .outside (s .bytes)) (Bytes·ByteArray .size) (B·Row .cells (s .bytes)) };
 
+    ghost Stored = { B·Row .Stored };
+
+    ghost stored = { λ s. B·Row .stored (s .bytes) };
+
     fn count(&mut self) -> usize {
         whole::<K, B>(&mut self.bytes)
     }
@@ -100,7 +108,13 @@ pub impl<K: Coded, B: Row<Item = u8>> Row for PackedRow<K, B> as PackedRowRow {
         }
     }
 
-    fn write(&mut self, place: usize, value: K) -> Result<(), Refusal> {
+    // The bytes of `value` are stored, and no other byte changes.
+    fn write(&mut self, place: usize, value: K) -> Result<(), Refusal>
+        ensures value { λ r. ⌜ r ≡ writeAt (packed (Bytes·ByteArray .size) (K·Coded .item) (B·Row .cells (now (self .entry) .bytes))) place ⌝ }
+        ensures after { λ _. ⌜ packed (Bytes·ByteArray .size) (K·Coded .item) (B·Row .cells (now (self .exit) .bytes)) ≡ set (packed (Bytes·ByteArray .size) (K·Coded .item) (B·Row .cells (now (self .entry) .bytes))) place value ⌝ }
+        ensures beside { λ _. ⌜ behind (B·Row .outside (now (self .exit) .bytes)) (Bytes·ByteArray .size) (B·Row .cells (now (self .exit) .bytes)) ≡ behind (B·Row .outside (now (self .entry) .bytes)) (Bytes·ByteArray .size) (B·Row .cells (now (self .entry) .bytes)) ⌝ }
+        ensures bytes { λ r. ⌜ B·Row .cells (now (self .exit) .bytes) ≡ cond (isOk r) (paste (B·Row .cells (now (self .entry) .bytes)) (place * Bytes·ByteArray .size) (K·Coded .bytes value) (Bytes·ByteArray .size)) (B·Row .cells (now (self .entry) .bytes)) ⌝ }
+    {
         if place < whole::<K, B>(&mut self.bytes) {
             let at = place * K::width() as usize;
             scatter(&mut self.bytes, at, value.encode());

@@ -1,5 +1,4 @@
 // A sound that plays, and its byte form.
-ghost use mathlib.Core.Path.{_≡_};
 ghost use Rattle.codes.specs.Kinds.{voiceBytes, voiceItem};
 use crate::bytes::ArrayBytes;
 use crate::coded::Coded;

@@ -5,7 +5,7 @@ use mathlib.Core.List.{List, _++_}
 use Prim.Native.Nat.{ℕ, _+_, _-_, _<_, _≤_}
 use native.Mathlib.Omega.{arith}
 use lib.ListN.{length, take, drop}
-use Rattle.std.proofs.shelf.Lists.{append-assoc, drop-at, drop-drop, length-append, length-drop, length-take-le, take-append-drop}
+use Rattle.std.proofs.shelf.Lists.{append-assoc, drop-at, drop-drop, length-append, length-drop, take-append-drop}
 use Rattle.std.proofs.shelf.Tests.{cases-lt}
 use Rattle.containers.specs.Bounded.{latest}
 

@@ -1,12 +1,11 @@
 -- What the calls of a queue mean, from what they do to its cells.
-use mathlib.Core.Path.{_≡_, refl, sym, ap, subst, _∙_}
-use mathlib.Core.Bool.{Bool, true, false, cond}
-use mathlib.Core.Logic.{_⊎_, inl, inr, ⊎-elim}
-use mathlib.Core.List.{List, [], _∷_, _++_}
-use Prim.Native.Nat.{ℕ, zero, suc, _+_, _-_, _%_, _<_, _≤_}
+use mathlib.Core.Path.{_≡_, sym, ap, subst, _∙_}
+use mathlib.Core.Bool.{cond}
+use mathlib.Core.Logic.{_⊎_, ⊎-elim}
+use mathlib.Core.List.{[], _∷_, _++_}
+use Prim.Native.Nat.{ℕ, _+_, _-_, _%_, _<_, _≤_}
 use native.Mathlib.Omega.{arith}
-use lib.Dec.{eqb, ltb}
-use lib.ListN.{length, set, drop}
+use lib.ListN.{length, drop}
 use Rattle.std.proofs.shelf.Lists.{length-push, nil-from-length, drop-all, drop-append-le}
 use Rattle.std.proofs.shelf.Maps.{nth-past}
 use Rattle.std.proofs.shelf.Tests.{cases-eq, cases-lt, lt-ltb, le-ltb, eq-eqb, ne-eqb, cond-true, cond-false}
@@ -18,11 +17,10 @@ use Rattle.std.specs.declared.option.Option.the-variants.{Some, None}
 use Rattle.std.specs.declared.result.Result.{Result}
 use Rattle.std.specs.declared.result.Result.the-variants.{Ok, Err}
 use Rattle.refusal.specs.declared.Refusal.{Refusal}
-use Rattle.refusal.specs.declared.Refusal.the-variants.{PlacePastLength, NoSpace, NoCell, NoPlace}
-use Rattle.rows.specs.Cells.{readAt, writeAt}
+use Rattle.refusal.specs.declared.Refusal.the-variants.{PlacePastLength, NoCell, NoPlace}
 use Rattle.rows.proofs.Cells.{write-within}
 use Rattle.containers.specs.Bounded.{Means, latest, appendAnswer, appended, displaced}
-use Rattle.containers.specs.Queues.{QueueState, Backed, placeOf, contents, pushed, popped, overflowed, pushAnswer, oldestAnswer, overflowAnswer, getAnswer}
+use Rattle.containers.specs.Queues.{QueueState, Backed, contents, pushed, popped, overflowed, pushAnswer, oldestAnswer, overflowAnswer, getAnswer}
 use Rattle.containers.proofs.Rounds.{length-contents, nth-contents, nth-some, contents-pushed, contents-popped, pushed-backed, wrap-below}
 
 -- a found element is answered alike whatever its absence would have been

@@ -1,20 +1,20 @@
 -- Laws of the ring and of a queue's contents, over numbers and lists alone.
 use mathlib.Core.Path.{_≡_, refl, sym, ap, _∙_}
-use mathlib.Core.Logic.{_⊎_, inl, inr, ⊎-elim}
+use mathlib.Core.Logic.{_⊎_, ⊎-elim}
 use mathlib.Core.List.{List, [], _∷_, _++_}
 use Prim.Native.Nat.{ℕ, zero, suc, _+_, _-_, _%_, _<_, _≤_}
-use native.Mathlib.Nat.{mod-lt, mod-eq-of-lt, mod-eq-sub-mod, mod-add-mod, add-zero, zero-add, add-assoc}
+use native.Mathlib.Nat.{mod-lt, mod-eq-of-lt, mod-eq-sub-mod, mod-add-mod, add-zero, zero-add}
 use native.Mathlib.Omega.{arith}
-use lib.ListN.{length, set, drop, take}
+use lib.ListN.{length, set, drop}
 use Rattle.std.proofs.iter.runs.Lists.{nth-drop, nth-left, nth-seam}
-use Rattle.std.proofs.shelf.Lists.{length-append, length-drop, length-set, length-push}
+use Rattle.std.proofs.shelf.Lists.{length-drop, length-set, length-push}
 use Rattle.std.proofs.shelf.Tests.{cases-eq, cases-lt}
 use Rattle.std.specs.Finite.{nth}
 use Rattle.std.specs.Iters.{counting}
 use Rattle.std.specs.Joined.{joined}
 use Rattle.std.specs.Vec.{listOf}
 use Rattle.std.specs.declared.option.Option.{Option}
-use Rattle.std.specs.declared.option.Option.the-variants.{Some, None}
+use Rattle.std.specs.declared.option.Option.the-variants.{Some}
 use Rattle.containers.specs.Queues.{QueueState, Backed, placeOf, contents, pushed, popped}
 
 -- once round the ring at most

@@ -1,11 +1,10 @@
 -- What the calls of a vector mean, from what they do to its cells.
-use mathlib.Core.Path.{_≡_, refl, sym, ap, subst, _∙_}
+use mathlib.Core.Path.{_≡_, sym, ap, subst, _∙_}
 use mathlib.Core.Bool.{cond}
 use mathlib.Core.Logic.{⊎-elim}
-use mathlib.Core.List.{List, [], _∷_, _++_}
 use Prim.Native.Nat.{ℕ, _+_, _-_, _<_, _≤_}
 use native.Mathlib.Omega.{arith}
-use lib.Dec.{eqb, ltb}
+use lib.Dec.{ltb}
 use lib.ListN.{length, set, take}
 use lib.Seq.{take-set-lt}
 use Rattle.std.proofs.shelf.Lists.{length-take-le, length-set, set-past, take-more-set, take-take}
@@ -15,12 +14,11 @@ use Rattle.std.specs.Finite.{nth}
 use Rattle.std.specs.Options.{okOr}
 use Rattle.std.specs.Results.{isOk, mapped}
 use Rattle.std.specs.declared.option.Option.{Option}
-use Rattle.std.specs.declared.option.Option.the-variants.{Some, None}
+use Rattle.std.specs.declared.option.Option.the-variants.{Some}
 use Rattle.std.specs.declared.result.Result.{Result}
 use Rattle.std.specs.declared.result.Result.the-variants.{Ok, Err}
 use Rattle.refusal.specs.declared.Refusal.{Refusal}
 use Rattle.refusal.specs.declared.Refusal.the-variants.{PlacePastLength, NoSpace, NoPlace}
-use Rattle.rows.specs.Cells.{readAt, writeAt}
 use Rattle.rows.proofs.Cells.{nth-take, write-within}
 use Rattle.containers.specs.Bounded.{Means, appendAnswer, appended}
 use Rattle.containers.specs.Vectors.{VecState, Backed, contents, with, pushAnswer, popAnswer, readAnswer, writeAnswer}

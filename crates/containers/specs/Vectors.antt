@@ -1,9 +1,9 @@
 -- A vector by its registers and the cells of its row, and what its calls answer and change.
 use mathlib.Core.Bool.{cond}
 use mathlib.Core.List.{List}
-use Prim.Native.Nat.{ℕ, _+_, _-_, _≤_}
+use Prim.Native.Nat.{ℕ, _-_, _≤_}
 use lib.Dec.{eqb, ltb}
-use lib.ListN.{length, set, take}
+use lib.ListN.{length, take}
 use Rattle.std.specs.Results.{mapped}
 use Rattle.std.specs.declared.option.Option.{Option}
 use Rattle.std.specs.declared.option.Option.the-variants.{Some, None}

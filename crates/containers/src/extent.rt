@@ -1,6 +1,6 @@
 // How much a vector can hold, and how much it holds.
 ghost use mathlib.Core.Path.{_≡_};
-ghost use Prim.Native.Nat.{_+_, _-_, _<_, _≤_};
+ghost use Prim.Native.Nat.{_-_, _≤_};
 
 // An extent that breaks the facts below cannot be made.
 #[derive(Clone, Copy)]

@@ -1,7 +1,7 @@
 // A queue over any row.
 ghost use mathlib.Core.Path.{_≡_};
 ghost use mathlib.Core.Bool.{cond};
-ghost use mathlib.Core.List.{List, [], _∷_, _++_};
+ghost use mathlib.Core.List.{[], _∷_, _++_};
 ghost use Prim.Native.Nat.{min};
 ghost use lib.Dec.{eqb};
 ghost use lib.ListN.{length, drop};
@@ -67,7 +67,8 @@ impl<R: Row> MetaQueue<R> {
 
     // True where nothing is held.
     pub fn is_empty(&self) -> bool
-        ensures { λ r. ⌜ r ≡ eqb ((queue (R·Row .cells) (now (self .entry))) .len) 0 ⌝ }
+        ensures value { λ r. ⌜ r ≡ eqb ((queue (R·Row .cells) (now (self .entry))) .len) 0 ⌝ }
+        ensures means { λ r. ⌜ (Backed (queue (R·Row .cells) (now (self .entry))) → r ≡ eqb (length (contents (queue (R·Row .cells) (now (self .entry))))) 0) ⌝ }
     {
         self.position.len == 0
     }
@@ -89,7 +90,8 @@ impl<R: Row> MetaQueue<R> {
 
     // True where no more can be held.
     pub fn is_full(&self) -> bool
-        ensures { λ r. ⌜ r ≡ eqb ((queue (R·Row .cells) (now (self .entry))) .len) ((queue (R·Row .cells) (now (self .entry))) .capacity) ⌝ }
+        ensures value { λ r. ⌜ r ≡ eqb ((queue (R·Row .cells) (now (self .entry))) .len) ((queue (R·Row .cells) (now (self .entry))) .capacity) ⌝ }
+        ensures means { λ r. ⌜ (Backed (queue (R·Row .cells) (now (self .entry))) → r ≡ eqb (length (contents (queue (R·Row .cells) (now (self .entry))))) ((queue (R·Row .cells) (now (self .entry))) .capacity)) ⌝ }
     {
         self.position.len == self.position.capacity
     }

@@ -60,18 +60,20 @@ impl<R: Row> MetaVec<R> {
         self.extent.len
     }
 
-    // True where nothing is held.
-    pub fn is_empty(&self) -> bool
-        ensures { λ r. ⌜ r ≡ eqb ((vector (R·Row .cells) (now (self .entry))) .len) 0 ⌝ }
-    {
-        self.extent.len == 0
-    }
-
     // True where no more can be held.
     pub fn is_full(&self) -> bool
-        ensures { λ r. ⌜ r ≡ eqb ((vector (R·Row .cells) (now (self .entry))) .len) ((vector (R·Row .cells) (now (self .entry))) .capacity) ⌝ }
+        ensures value { λ r. ⌜ r ≡ eqb ((vector (R·Row .cells) (now (self .entry))) .len) ((vector (R·Row .cells) (now (self .entry))) .capacity) ⌝ }
+        ensures means { λ r. ⌜ (Backed (vector (R·Row .cells) (now (self .entry))) → r ≡ eqb (length (contents (vector (R·Row .cells) (now (self .entry))))) ((vector (R·Row .cells) (now (self .entry))) .capacity)) ⌝ }
     {
         self.extent.len == self.extent.capacity
+    }
+
+    // True where nothing is held.
+    pub fn is_empty(&self) -> bool
+        ensures value { λ r. ⌜ r ≡ eqb ((vector (R·Row .cells) (now (self .entry))) .len) 0 ⌝ }
+        ensures means { λ r. ⌜ (Backed (vector (R·Row .cells) (now (self .entry))) → r ≡ eqb (length (contents (vector (R·Row .cells) (now (self .entry))))) 0) ⌝ }
+    {
+        self.extent.len == 0
     }
 
     // Adds `value` behind the last element; refused where the vector is full.
@@ -84,16 +86,6 @@ impl<R: Row> MetaVec<R> {
         self.push_impl(value)
     }
 
-    // Takes the last element out.
-    pub fn pop(&mut self) -> Result<Option<R::Item>, Refusal>
-        ensures value { λ r. ⌜ r ≡ popAnswer (vector (R·Row .cells) (now (self .entry))) ⌝ }
-        ensures after { λ r. ⌜ (vector (R·Row .cells) (now (self .exit))) ≡ cond (isOk r) (with (vector (R·Row .cells) (now (self .entry))) ((vector (R·Row .cells) (now (self .entry))) .len - 1) ((vector (R·Row .cells) (now (self .entry))) .cells)) (vector (R·Row .cells) (now (self .entry))) ⌝ }
-        ensures means { λ r. ⌜ (Backed (vector (R·Row .cells) (now (self .entry))) → Means contents Backed (vector (R·Row .cells) (now (self .entry))) r (vector (R·Row .cells) (now (self .exit))) (λ xs. Ok (nth xs (length xs - 1))) (λ xs. take (length xs - 1) xs)) ⌝ }
-        ensures beside { λ _. ⌜ R·Row .outside (now (self .exit) .row) ≡ R·Row .outside (now (self .entry) .row) ⌝ }
-    {
-        self.pop_impl()
-    }
-
     // Lets all elements go.
     pub fn clear(&mut self)
         ensures after { λ _. ⌜ (vector (R·Row .cells) (now (self .exit))) ≡ with (vector (R·Row .cells) (now (self .entry))) 0 ((vector (R·Row .cells) (now (self .entry))) .cells) ⌝ }
@@ -102,6 +94,16 @@ impl<R: Row> MetaVec<R> {
         ensures beside { λ _. ⌜ R·Row .outside (now (self .exit) .row) ≡ R·Row .outside (now (self .entry) .row) ⌝ }
     {
         self.extent = self.extent.resized(0);
+    }
+
+    // Takes the last element out.
+    pub fn pop(&mut self) -> Result<Option<R::Item>, Refusal>
+        ensures value { λ r. ⌜ r ≡ popAnswer (vector (R·Row .cells) (now (self .entry))) ⌝ }
+        ensures after { λ r. ⌜ (vector (R·Row .cells) (now (self .exit))) ≡ cond (isOk r) (with (vector (R·Row .cells) (now (self .entry))) ((vector (R·Row .cells) (now (self .entry))) .len - 1) ((vector (R·Row .cells) (now (self .entry))) .cells)) (vector (R·Row .cells) (now (self .entry))) ⌝ }
+        ensures means { λ r. ⌜ (Backed (vector (R·Row .cells) (now (self .entry))) → Means contents Backed (vector (R·Row .cells) (now (self .entry))) r (vector (R·Row .cells) (now (self .exit))) (λ xs. Ok (nth xs (length xs - 1))) (λ xs. take (length xs - 1) xs)) ⌝ }
+        ensures beside { λ _. ⌜ R·Row .outside (now (self .exit) .row) ≡ R·Row .outside (now (self .entry) .row) ⌝ }
+    {
+        self.pop_impl()
     }
 
     // The element at `place`; refused at or past the length.

@@ -1,7 +1,7 @@
 // A queue of numbers, filled from lines and printed.
 ghost use mathlib.Core.Path.{_≡_};
-ghost use mathlib.Core.List.{List, [], _++_};
-ghost use lib.ListN.{length, drop};
+ghost use mathlib.Core.List.{_++_};
+ghost use lib.ListN.{drop};
 ghost use Rattle.std.specs.Finite.{nth};
 ghost use Rattle.std.specs.Vec.{made, listOf};
 ghost use Rattle.std.specs.Of.String.{string-bytes};

@@ -4,9 +4,7 @@ use mathlib.Core.Bool.{cond}
 use mathlib.Core.Logic.{⊎-elim}
 use mathlib.Core.List.{List, [], _∷_}
 use Prim.Native.Nat.{ℕ, zero, suc, _+_, _-_, _<_, _≤_, min}
-use native.Mathlib.Nat.{min-le-left}
 use native.Mathlib.Omega.{arith}
-use lib.Dec.{ltb}
 use lib.ListN.{length, getD, take, drop, set}
 use lib.Seq.{take-set-lt}
 use Rattle.std.specs.Finite.{nth}
@@ -51,6 +49,10 @@ pub read-refused : {T : Type 0} (xs : List T) (i : ℕ) (e : Refusal) → Err e 
 read-refused [] i e p h = omega arith
 read-refused (y ∷ ys) zero e p h = let z : _≡_ {A = ℕ} 0 1 = cc in omega arith
 read-refused (y ∷ ys) (suc i) e p h = read-refused ys i e p (omega arith)
+
+pub read-refused-past : {T : Type 0} (xs : List T) (i : ℕ) (e : Refusal) → Err e ≡ readAt xs i → length xs ≤ i
+read-refused-past xs i e p =
+    ⊎-elim (λ (lt : i < length xs). absurd (read-refused xs i e p lt)) (λ le. le) (cases-lt i (length xs))
 
 -- a refused write had no such place, and so changes nothing
 pub write-refused : {T : Type 0} (xs : List T) (i : ℕ) (e : Refusal) → Err e ≡ writeAt xs i → length xs ≤ i

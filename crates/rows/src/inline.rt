@@ -1,5 +1,6 @@
 // A row that carries its cells in itself.
 ghost use mathlib.Core.Path.{_≡_};
+ghost use mathlib.Core.List.{List};
 ghost use lib.ListN.{length, replicate};
 use crate::row::Row;
 use refusal::Refusal;
@@ -41,6 +42,10 @@ pub impl<T: Copy> Row for InlineRow<T> as InlineRowRow {
     ghost Outside = { Unit {0} };
 
     ghost outside = { λ _. tt };
+
+    ghost Stored = { List T };
+
+    ghost stored = { λ s. s .cells };
 
     fn count(&mut self) -> usize {
         size(&self.cells)

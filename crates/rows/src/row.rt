@@ -18,16 +18,24 @@ pub trait Row {
 
     ghost outside: { Self → Outside };
 
+    // The row as it is stored, down to the memory at the bottom: cells, and what lies outside.
+    // Only a write changes it.
+    ghost Stored: { Type 0 };
+
+    ghost stored: { Self → Stored };
+
     // How many cells there are.
     fn count(&mut self) -> usize
         ensures value { λ r. ⌜ r ≡ length (cells (now (self .entry))) ⌝ }
         ensures same { λ _. ⌜ cells (now (self .exit)) ≡ cells (now (self .entry)) ⌝ }
+        ensures untouched { λ _. ⌜ stored (now (self .exit)) ≡ stored (now (self .entry)) ⌝ }
         ensures beside { λ _. ⌜ outside (now (self .exit)) ≡ outside (now (self .entry)) ⌝ };
 
     // The cell at `place`; refused where there is no such place.
     fn read(&mut self, place: usize) -> Result<Self::Item, Refusal>
         ensures value { λ r. ⌜ r ≡ readAt (cells (now (self .entry))) place ⌝ }
         ensures same { λ _. ⌜ cells (now (self .exit)) ≡ cells (now (self .entry)) ⌝ }
+        ensures untouched { λ _. ⌜ stored (now (self .exit)) ≡ stored (now (self .entry)) ⌝ }
         ensures beside { λ _. ⌜ outside (now (self .exit)) ≡ outside (now (self .entry)) ⌝ };
 
     // Stores `value` in the cell at `place` and in no other; refused where there is no such

@@ -1,5 +1,6 @@
 // A row over a slice that the caller keeps.
 ghost use mathlib.Core.Path.{_≡_};
+ghost use mathlib.Core.List.{List};
 ghost use lib.ListN.{length, set};
 ghost use base.Fml.{GName};
 ghost use denote.Ref.{name};
@@ -72,6 +73,10 @@ pub impl<'a, T: Copy> Row for SliceRow<'a, T> as SliceRowRow {
     ghost Outside = { GName };
 
     ghost outside = { λ s. name (s .slice) };
+
+    ghost Stored = { GName × List T };
+
+    ghost stored = { λ s. (name (s .slice), s .slice .now) };
 
     fn count(&mut self) -> usize {
         size(self.slice)

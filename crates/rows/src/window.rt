@@ -1,6 +1,6 @@
 // A row over a part of another row.
 ghost use mathlib.Core.Path.{_≡_};
-ghost use Prim.Native.Nat.{_<_, _^_};
+ghost use Prim.Native.Nat.{ℕ, _<_, _^_};
 ghost use lib.ListN.{length};
 ghost use Rattle.rows.specs.Cells.{window, Around, around};
 use crate::row::Row;
@@ -19,6 +19,7 @@ fn shown<R: Row>(row: &mut R, from: usize, most: usize) -> usize
     ensures value { λ r. ⌜ r ≡ length (window from most (R·Row .cells (now (row .entry)))) ⌝ }
     ensures fits { λ _. ⌜ length (R·Row .cells (now (row .entry))) < 2 ^ 64 ⌝ }
     ensures same { λ _. ⌜ R·Row .cells (now (row .exit)) ≡ R·Row .cells (now (row .entry)) ⌝ }
+    ensures untouched { λ _. ⌜ R·Row .stored (now (row .exit)) ≡ R·Row .stored (now (row .entry)) ⌝ }
     ensures beside { λ _. ⌜ R·Row .outside (now (row .exit)) ≡ R·Row .outside (now (row .entry)) ⌝ }
 {
     let rest = row.count().saturating_sub(from);
@@ -58,6 +59,10 @@ pub impl<R: Row> Row for WindowRow<R> as WindowRowRow {
     ghost Outside = { Around (R·Row .Outside) R·Item };
 
     ghost outside = { λ s. around (R·Row .outside (s .row)) (s .from) (s .most) (R·Row .cells (s .row)) };
+
+    ghost Stored = { R·Row .Stored × ℕ × ℕ };
+
+    ghost stored = { λ s. (R·Row .stored (s .row), s .from, s .most) };
 
     fn count(&mut self) -> usize {
         shown(&mut self.row, self.from, self.most)

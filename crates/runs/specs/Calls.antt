@@ -1,9 +1,11 @@
 -- Calls of a queue of numbers by their meaning: a list of at most c elements, from the oldest.
 use mathlib.Core.List.{List, [], _∷_, _++_}
+use mathlib.Core.Bool.{cond}
 use Prim.Native.Nat.{ℕ}
 use lib.ListN.{drop}
 use Rattle.std.specs.Finite.{nth}
 use Rattle.std.specs.Options.{okOr}
+use Rattle.std.specs.Results.{isOk}
 use Rattle.std.specs.declared.option.Option.{Option}
 use Rattle.std.specs.declared.option.Option.the-variants.{Some, None}
 use Rattle.std.specs.declared.result.Result.{Result}
@@ -11,6 +13,7 @@ use Rattle.std.specs.declared.result.Result.the-variants.{Ok, Err}
 use Rattle.refusal.specs.declared.Refusal.{Refusal}
 use Rattle.refusal.specs.declared.Refusal.the-variants.{PlacePastLength}
 use Rattle.containers.specs.Bounded.{appendAnswer, appended, displaced, latest}
+use Rattle.containers.specs.Queues.{QueueState, pushed, popped, overflowed, pushAnswer, oldestAnswer, overflowAnswer, getAnswer}
 use Rattle.runs.specs.declared.calls.QueueCall.{QueueCall}
 use Rattle.runs.specs.declared.calls.QueueCall.the-variants.{Push, PushWithOverflow, Pop, Peek, Get}
 use Rattle.runs.specs.declared.calls.QueueAnswer.{QueueAnswer}
@@ -44,6 +47,21 @@ heldAfter c xs (PushWithOverflow v) = latest c (xs ++ (v ∷ []))
 heldAfter c xs Pop = drop 1 xs
 heldAfter c xs Peek = xs
 heldAfter c xs (Get i) = xs
+
+-- the same by the cells, whatever they are
+abbrev pub cellsAnswer : QueueState ℕ → QueueCall → QueueAnswer
+cellsAnswer q (Push v) = done (pushAnswer q)
+cellsAnswer q (PushWithOverflow v) = optional (overflowAnswer q)
+cellsAnswer q Pop = optional (oldestAnswer q)
+cellsAnswer q Peek = optional (oldestAnswer q)
+cellsAnswer q (Get i) = numbered (getAnswer q i)
+
+abbrev pub cellsAfter : QueueState ℕ → QueueCall → QueueState ℕ
+cellsAfter q (Push v) = cond (isOk (pushAnswer q)) (pushed q v) q
+cellsAfter q (PushWithOverflow v) = cond (isOk (overflowAnswer q)) (overflowed q v) q
+cellsAfter q Pop = cond (isOk (oldestAnswer q)) (popped q) q
+cellsAfter q Peek = q
+cellsAfter q (Get i) = q
 
 -- the answers to calls made one after another
 abbrev pub answersTo : ℕ → List ℕ → List QueueCall → List QueueAnswer

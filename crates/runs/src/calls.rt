@@ -3,7 +3,7 @@ use refusal::Refusal;
 use refusal::RefusalDebug;
 use refusal::RefusalPartialEq;
 
-#[derive(Clone, Copy, PartialEq, Eq, Debug)]
+#[derive(Clone, Copy)]
 pub enum QueueCall {
     Push(u32),
     PushWithOverflow(u32),

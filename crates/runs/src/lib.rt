@@ -9,5 +9,4 @@ pub use calls::QueueAnswerDebug;
 pub use calls::QueueAnswerPartialEq;
 pub use calls::QueueCall;
 pub use making::perform;
-pub use making::run_queue;
 pub use worked::worked_runs;

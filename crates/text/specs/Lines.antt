@@ -14,3 +14,12 @@ onto b (line ∷ rest) = (b ∷ line) ∷ rest
 abbrev pub lines : List ℕ → List (List ℕ)
 lines [] = []
 lines (b ∷ bs) = cond (eqb b 10) ([] ∷ lines bs) (onto b (lines bs))
+
+-- the first line of a text, and what follows its end
+abbrev pub firstLine : List ℕ → List ℕ
+firstLine [] = []
+firstLine (b ∷ bs) = cond (eqb b 10) [] (b ∷ firstLine bs)
+
+abbrev pub afterLine : List ℕ → List ℕ
+afterLine [] = []
+afterLine (b ∷ bs) = cond (eqb b 10) bs (afterLine bs)

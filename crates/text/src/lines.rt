@@ -1,13 +1,13 @@
 // The lines of a text, one after another.
 ghost use mathlib.Core.Path.{_≡_};
-ghost use mathlib.Core.List.{List, [], _∷_, _++_};
+ghost use mathlib.Core.List.{_++_};
 ghost use Prim.Native.Nat.{ℕ, _-_, _<_, _≤_};
 ghost use lib.Dec.{ltb};
-ghost use lib.ListN.{length, getD, drop};
+ghost use lib.ListN.{length, getD};
 ghost use denote.Ref.{now as at};
-ghost use Rattle.std.specs.Options.{mapped, isSome};
+ghost use Rattle.std.specs.Options.{mapped, isSome, whenTrue};
 ghost use Rattle.std.specs.Vec.{listOf};
-ghost use Rattle.text.specs.Lines.{lines};
+ghost use Rattle.text.specs.Lines.{lines, firstLine, afterLine};
 
 // The byte that ends a line.
 const LINE_END: u8 = 10;
@@ -41,6 +41,8 @@ impl<'a> LineReader<'a> {
 
     // The next line without its end, or none where no text is left.
     pub fn next_line(&mut self) -> Option<&'a [u8]>
+        ensures value { λ r. ⌜ mapped at r ≡ whenTrue (ltb 0 (length (now (now (self .entry) .rest)))) (firstLine (now (now (self .entry) .rest))) ⌝ }
+        ensures rest { λ _. ⌜ now (now (self .exit) .rest) ≡ afterLine (now (now (self .entry) .rest)) ⌝ }
         ensures lines { λ r. ⌜ lines (now (now (self .entry) .rest)) ≡ listOf (mapped at r) ++ lines (now (now (self .exit) .rest)) ⌝ }
         ensures test { λ r. ⌜ isSome r ≡ ltb 0 (length (now (now (self .entry) .rest))) ⌝ }
         ensures shorter { λ _. ⌜ length (now (now (self .exit) .rest)) ≤ length (now (now (self .entry) .rest)) - 1 ⌝ }

@@ -1,5 +1,6 @@
 // Tests of the layers below, and a kind of cell of a caller's own.
 mod colour;
+mod flag;
 #[cfg(test)]
 mod packed_rows;
 #[cfg(test)]
@@ -13,3 +14,5 @@ mod vectors;
 
 pub use colour::Colour;
 pub use colour::ColourCoded;
+pub use flag::Flag;
+pub use flag::FlagCoded;

@@ -3,6 +3,10 @@ use crate::colour::Colour;
 use crate::colour::ColourCoded;
 use crate::colour::ColourDebug;
 use crate::colour::ColourPartialEq;
+use crate::flag::Flag;
+use crate::flag::FlagCoded;
+use crate::flag::FlagDebug;
+use crate::flag::FlagPartialEq;
 use codes::ByteCoded;
 use codes::DeadlineCoded;
 use codes::NumberCoded;
@@ -12,11 +16,13 @@ use codes::Voice;
 use codes::VoiceCoded;
 use codes::VoiceDebug;
 use codes::VoicePartialEq;
-use piles::store_link;
+use layers::store_link;
 use refusal::Refusal;
 use refusal::RefusalDebug;
 use refusal::RefusalPartialEq;
 use rows::FreeListEntry;
+use rows::InlineRow;
+use rows::InlineRowRow;
 use rows::NONE;
 use rows::Row;
 use rows::SliceRow;
@@ -121,4 +127,24 @@ fn link_pairs_in_a_window_of_bytes() -> Result<(), Fail> {
     check_eq(answer, Err(Refusal::NoPlace))?;
     let (answer, _) = store_link(bytes, usize::MAX, usize::MAX, usize::MAX, entry);
     check_eq(answer, Err(Refusal::NoPlace))
+}
+
+#[test]
+fn deadlines_in_an_inline_row_of_bytes() -> Result<(), Fail> {
+    let mut row: PackedRow<u64, InlineRow<u8>> = PackedRow::new(InlineRow::filled(0));
+    check_eq(row.count(), 8)?;
+    check_eq(row.write(7, 18446744073709551614), Ok(()))?;
+    check_eq(row.read(7), Ok(18446744073709551614))?;
+    check_eq(row.read(6), Ok(0))
+}
+
+#[test]
+fn a_read_leaves_bytes_that_no_item_is_written_with() -> Result<(), Fail> {
+    let mut bytes = [2, 2];
+    let mut row: PackedRow<Flag, SliceRow<u8>> = PackedRow::new(SliceRow::new(&mut bytes));
+    check_eq(row.count(), 2)?;
+    check_eq(row.read(0), Ok(Flag { set: true }))?;
+    check_eq(row.write(1, Flag { set: true }), Ok(()))?;
+    let slice = row.into_row().into_slice();
+    check(slice.len() == 2 && slice[0] == 2 && slice[1] == 1)
 }

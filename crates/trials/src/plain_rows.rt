@@ -1,5 +1,5 @@
 // Slice rows, inline rows and windows.
-use piles::store_number;
+use layers::store_number;
 use refusal::Refusal;
 use refusal::RefusalDebug;
 use refusal::RefusalPartialEq;
@@ -101,4 +101,25 @@ fn window_of_a_window() -> Result<(), Fail> {
     check_eq(inner.write(2, 50), Ok(()))?;
     let slice = inner.into_row().into_row().into_slice();
     check(slice.len() == 7 && slice[5] == 50 && slice[6] == 6)
+}
+
+#[test]
+fn link_pairs_changed_in_the_callers_slice() -> Result<(), Fail> {
+    let end = FreeListEntry {
+        previous: NONE,
+        next: NONE,
+    };
+    let mut links = [end; 1];
+    let mut row = SliceRow::new(&mut links);
+    check_eq(row.count(), 1)?;
+    let entry = row.read(0)?;
+    let linked = FreeListEntry {
+        previous: entry.previous,
+        next: 7,
+    };
+    check_eq(row.write(0, linked), Ok(()))?;
+    check_eq(row.read(0), Ok(linked))?;
+    check_eq(row.write(1, linked), Err(Refusal::NoPlace))?;
+    let slice = row.into_slice();
+    check(slice.len() == 1 && slice[0].previous == NONE && slice[0].next == 7)
 }

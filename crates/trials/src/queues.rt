@@ -4,6 +4,7 @@ use codes::NumberCoded;
 use codes::PackedRow;
 use codes::PackedRowRow;
 use containers::MetaQueue;
+use containers::MetaVec;
 use refusal::Refusal;
 use refusal::RefusalDebug;
 use refusal::RefusalPartialEq;
@@ -13,9 +14,10 @@ use rows::Row;
 use rows::SliceRow;
 use rows::SliceRowRow;
 use runs::QueueAnswer;
+use runs::QueueAnswerDebug;
 use runs::QueueAnswerPartialEq;
 use runs::QueueCall;
-use runs::run_queue;
+use runs::perform;
 use std::test::*;
 
 const CALLS: [QueueCall; 7] = [
@@ -38,13 +40,18 @@ const ANSWERS: [QueueAnswer; 7] = [
     QueueAnswer::Refused(Refusal::PlacePastLength),
 ];
 
+// Makes the calls of the worked run, and holds each answer to the stated one.
+fn run<R: Row<Item = u32>>(queue: &mut MetaQueue<R>) -> Result<(), Fail> {
+    for i in 0..7 {
+        check_eq(perform(queue, CALLS[i]), ANSWERS[i])?;
+    }
+    Ok(())
+}
+
 #[test]
 fn queue_of_three_over_an_inline_row() -> Result<(), Fail> {
     let mut queue = MetaQueue::with_capacity(InlineRow::filled(0), 3);
-    let mut answers = [QueueAnswer::Nothing; 8];
-    check_eq(run_queue(&mut queue, &CALLS, &mut answers), 7)?;
-    check(answers[0..7] == ANSWERS[0..7])?;
-    check(answers[7] == QueueAnswer::Nothing)
+    run(&mut queue)
 }
 
 #[test]
@@ -52,9 +59,7 @@ fn queue_of_three_over_packed_numbers() -> Result<(), Fail> {
     let mut bytes = [0; 13];
     let row: PackedRow<u32, SliceRow<u8>> = PackedRow::new(SliceRow::new(&mut bytes));
     let mut queue = MetaQueue::new(row);
-    let mut answers = [QueueAnswer::Nothing; 7];
-    check_eq(run_queue(&mut queue, &CALLS, &mut answers), 7)?;
-    check(answers[0..7] == ANSWERS[0..7])
+    run(&mut queue)
 }
 
 #[test]
@@ -89,4 +94,14 @@ fn capacity_is_at_most_the_count() -> Result<(), Fail> {
     check_eq(queue.capacity(), 64)?;
     let queue = MetaQueue::new(queue.into_row());
     check_eq(queue.capacity(), 64)
+}
+
+#[test]
+fn capacity_is_at_most_65535(rt: LibcRuntime) -> Result<(), Fail> {
+    let mut cells = vec![in rt.alloc(); 0u8; 65537]?;
+    let queue = MetaQueue::with_capacity(SliceRow::new(cells.as_mut_slice()), u32::MAX);
+    check_eq(queue.capacity(), 65535)?;
+    let mut vec = MetaVec::new(queue.into_row());
+    check_eq(vec.capacity(), 65535)?;
+    check_eq(vec.push(1), Ok(()))
 }

@@ -24,6 +24,7 @@ fn refusals_are_numbered_in_order() -> Result<(), Fail> {
     let mut expected: u32 = 1;
     for refusal in REFUSALS.iter() {
         check_eq(refusal.number(), expected)?;
+        check_eq(refusal.carried().is_some(), expected == 8 || expected == 12)?;
         expected = expected.saturating_add(1);
     }
     Ok(())

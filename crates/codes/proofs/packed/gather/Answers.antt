@@ -9,7 +9,7 @@ use Rattle.codes.proofs.Groups.{gather-none, gather-more, gather-all}
 use Rattle.codes.proofs.packed.gather.Needs as need
 
 pub loop-i-holds : need.loop-i-holds
-loop-i-holds g c = (c .zeros-string .ensures ∙ gather-none (window (c .args .at) (g .A·ByteArray .size) (g .B·Row .cells (c .args .bytes .now))) _, refl, refl)
+loop-i-holds g c = (c .zeros-string .ensures ∙ gather-none (window (c .args .at) (g .A·ByteArray .size) (g .B·Row .cells (c .args .bytes .now))) _, refl, refl, refl)
 
 pub unreachable-requires : need.unreachable-requires
 unreachable-requires g c κs = read-refused (g .B·Row .cells (c .loop-i .bytes)) (c .args .at + c .loop-i .i) (c .in-Err .field-0) (c .in-Err .ensures tt .value) (let e = ap length (c .loop-i .inv .1) in omega arith)
@@ -27,6 +27,7 @@ loop-i-again g c =
           ∙ gather-more (window (c .args .at) n xs) n i (c .in-Ok .byte) (omega arith) (omega arith) (gave .1 0 ∙ sym (getD-window (c .args .at) n i xs 0 (omega arith))),
       c .in-Ok .ensures tt .same ∙ same,
       c .in-Ok .ensures tt .beside ∙ c .loop-i .inv .2,
+      c .in-Ok .ensures tt .untouched ∙ c .loop-i .inv .3,
     )
 
 pub returns : need.returns
@@ -38,5 +39,6 @@ returns g c =
     record {
       value = c .loop-i .inv .0 ∙ ap (paste (replicate n 0) 0 (window (c .args .at) n xs)) done ∙ gather-all (window (c .args .at) n xs) n (omega arith);
       same = c .loop-i .inv .1;
+      untouched = c .loop-i .inv .3;
       beside = c .loop-i .inv .2;
     }

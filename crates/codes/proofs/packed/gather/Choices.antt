@@ -10,3 +10,4 @@ Inv-loop-i g l =
     (g .A·ByteArray .list (l .string) ≡ paste (replicate (g .A·ByteArray .size) 0) 0 (window (l .at) (g .A·ByteArray .size) (g .B·Row .cells (l .entry .bytes))) (l .i))
     × (g .B·Row .cells (l .bytes) ≡ g .B·Row .cells (l .entry .bytes))
     × (g .B·Row .outside (l .bytes) ≡ g .B·Row .outside (l .entry .bytes))
+    × (g .B·Row .stored (l .bytes) ≡ g .B·Row .stored (l .entry .bytes))

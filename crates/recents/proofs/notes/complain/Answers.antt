@@ -1,5 +1,4 @@
-use mathlib.Core.Path.{_≡_, ap, _∙_}
-use mathlib.Core.List.{_++_}
+use mathlib.Core.Path.{_∙_}
 use Rattle.std.specs.Of.String.{string-bytes}
 use Rattle.recents.proofs.notes.complain.Needs as need
 use Rattle.recents.proofs.Steps.{pushed-when-made}

@@ -1,7 +1,5 @@
-use mathlib.Core.Path.{_≡_, refl, sym, ap, _∙_}
-use Prim.Native.Nat.{_≤_}
+use mathlib.Core.Path.{refl, sym, _∙_}
 use native.Mathlib.Omega.{arith}
-use lib.ListN.{getD}
 use Rattle.std.proofs.shelf.Lists.{at-drop-all}
 use Rattle.text.proofs.Scans.{scan, scan-more, scan-stops, digits-fit, digits-more, number-none, number-some, number-large}
 use Rattle.text.proofs.decimal.number.Needs as need

@@ -9,5 +9,6 @@ returns g c =
     record {
       value = c .whole .ensures .value ∙ sym (length-packed w (g .K·Coded .item) (c .whole .ensures .some) (g .B·Row .cells (c .args .self .now .bytes)));
       same = ap (packed w (g .K·Coded .item)) (c .whole .ensures .same);
+      untouched = c .whole .ensures .untouched;
       beside = behind-same w _ _ _ _ (c .whole .ensures .beside) (c .whole .ensures .same);
     }

@@ -1,5 +1,5 @@
-use mathlib.Core.Path.{_≡_, sym, ap, subst, _∙_}
-use Prim.Native.Nat.{ℕ, _+_, _*_, _/_, _≤_, _<_, _^_}
+use mathlib.Core.Path.{sym, ap, _∙_}
+use Prim.Native.Nat.{_*_}
 use native.Mathlib.Omega.{arith}
 use lib.ListN.{length}
 use Rattle.std.specs.declared.result.Result.the-variants.{Ok}
@@ -31,6 +31,7 @@ returns-then-place-whole g c =
     record {
       value = ap Ok (c .decode .ensures ∙ ap item string) ∙ packed-read w item some xs (c .args .place) (omega arith);
       same = ap (packed w item) kept;
+      untouched = c .gather .ensures .untouched ∙ c .whole .ensures .untouched;
       beside = behind-same w _ _ _ _ (c .gather .ensures .beside ∙ c .whole .ensures .beside) kept;
     }
 
@@ -43,5 +44,6 @@ returns-else-place-whole g c =
     record {
       value = sym (read-past (packed w item xs) (c .args .place) (omega arith));
       same = ap (packed w item) (c .whole .ensures .same);
+      untouched = c .whole .ensures .untouched;
       beside = behind-same w _ _ _ _ (c .whole .ensures .beside) (c .whole .ensures .same);
     }

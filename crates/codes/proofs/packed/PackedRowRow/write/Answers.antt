@@ -1,5 +1,5 @@
-use mathlib.Core.Path.{_≡_, sym, ap, _∙_}
-use Prim.Native.Nat.{ℕ, _+_, _*_, _/_, _≤_, _<_, _^_}
+use mathlib.Core.Path.{sym, ap, _∙_}
+use Prim.Native.Nat.{_*_, _/_, _<_}
 use native.Mathlib.Omega.{arith}
 use lib.ListN.{length, set}
 use lib.Seq.{paste}
@@ -43,6 +43,7 @@ returns-then-place-whole g c =
       beside =
           ap (behind _ w) pasted
           ∙ behind-write w item some xs (c .args .place) string in-range (c .encode .ensures .width) _ _ (c .scatter .ensures .beside ∙ c .whole .ensures .beside);
+      bytes = pasted;
     }
 
 pub returns-else-place-whole : need.returns-else-place-whole
@@ -55,4 +56,5 @@ returns-else-place-whole g c =
       value = sym (write-past (packed w item xs) (c .args .place) (omega arith));
       after = ap (packed w item) (c .whole .ensures .same) ∙ sym (set-past (packed w item xs) (c .args .place) (c .args .value) (omega arith));
       beside = behind-same w _ _ _ _ (c .whole .ensures .beside) (c .whole .ensures .same);
+      bytes = c .whole .ensures .same;
     }

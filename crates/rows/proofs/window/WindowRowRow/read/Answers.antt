@@ -1,10 +1,9 @@
 use borrow.Author.Needs.{needs}
 use native.Mathlib.Omega.{arith}
-use mathlib.Core.Path.{_≡_, refl, sym, ap, _∙_}
+use mathlib.Core.Path.{ap, _∙_}
 use Prim.Native.Nat.{_+_}
-use lib.ListN.{set}
-use Rattle.rows.specs.Cells.{readAt, writeAt, window}
-use Rattle.rows.proofs.Cells.{cells-laws, window-within, window-read, window-write, around-same, around-set, set-window}
+use Rattle.rows.specs.Cells.{readAt, window}
+use Rattle.rows.proofs.Cells.{cells-laws, window-within, window-read, around-same}
 use Rattle.rows.proofs.window.WindowRowRow.read.Needs as need
 
 pub add-self : need.add-self
@@ -20,8 +19,15 @@ returns-then-place-shown g c =
     record {
       value = c .read .ensures .value ∙ ap (λ ys. readAt ys (c .args .self .now .from + c .args .place)) (c .shown .ensures .same) ∙ window-read _ _ _ xs (omega arith);
       same = ap (window (c .args .self .now .from) (c .args .self .now .most)) kept;
+      untouched = ap (λ b. (b, c .args .self .now .from, c .args .self .now .most)) (c .read .ensures .untouched ∙ c .shown .ensures .untouched);
       beside = around-same _ _ _ _ _ _ outer kept;
     }
 
 pub returns-else-place-shown : need.returns-else-place-shown
-returns-else-place-shown g c = record { value = search (needs, cells-laws); same = search needs; beside = around-same _ _ _ _ _ _ (c .shown .ensures .beside) (c .shown .ensures .same) }
+returns-else-place-shown g c =
+    record {
+      value = search (needs, cells-laws);
+      same = search needs;
+      untouched = ap (λ b. (b, c .args .self .now .from, c .args .self .now .most)) (c .shown .ensures .untouched);
+      beside = around-same _ _ _ _ _ _ (c .shown .ensures .beside) (c .shown .ensures .same);
+    }

@@ -1,10 +1,10 @@
 use borrow.Author.Needs.{needs}
 use native.Mathlib.Omega.{arith}
-use mathlib.Core.Path.{_≡_, refl, sym, ap, _∙_}
+use mathlib.Core.Path.{ap, _∙_}
 use Prim.Native.Nat.{_+_}
 use lib.ListN.{set}
-use Rattle.rows.specs.Cells.{readAt, writeAt, window}
-use Rattle.rows.proofs.Cells.{cells-laws, window-within, window-read, window-write, around-same, around-set, set-window}
+use Rattle.rows.specs.Cells.{writeAt, window}
+use Rattle.rows.proofs.Cells.{cells-laws, window-within, window-write, around-same, around-set, set-window}
 use Rattle.rows.proofs.window.WindowRowRow.write.Needs as need
 
 pub add-self : need.add-self

@@ -1,13 +1,16 @@
-use mathlib.Core.Path.{_≡_, refl, sym, ap, _∙_}
+use mathlib.Core.Path.{_≡_, sym, ap, _∙_}
 use denote.Ref.{name, now}
 use mathlib.Core.List.{List}
-use Prim.Native.Nat.{ℕ}
+use mathlib.Core.Bool.{cond}
+use Prim.Native.Nat.{ℕ, _*_}
+use lib.Seq.{paste}
+use Rattle.std.specs.Results.{isOk}
 use lib.ListN.{set}
 use Rattle.rows.specs.Cells.{writeAt, window, around}
-use Rattle.codes.specs.Kinds.{linkItem}
-use Rattle.codes.specs.Packed.{packed, behind}
+use Rattle.codes.specs.Kinds.{linkBytes, linkItem}
+use Rattle.codes.specs.Packed.{packed}
 use Rattle.codes.proofs.Groups.{behind-same}
-use Rattle.piles.proofs.links.store_link.Needs as need
+use Rattle.layers.proofs.links.store_link.Needs as need
 
 -- equal parts make equal outsides
 parts : {O T : Type 0} (o p : O) (f g m n : ℕ) (xs ys : List T) → p ≡ o → g ≡ f → n ≡ m → ys ≡ xs → around p g n ys ≡ around o f m xs
@@ -36,6 +39,7 @@ returns c =
     record {
       value = c .write-answer .ensures .value ∙ ap (λ xs. writeAt (packed 8 linkItem xs) (c .args .place)) old-window;
       after = ap (packed 8 linkItem) new-window ∙ c .write-answer .ensures .after ∙ ap (λ xs. set (packed 8 linkItem xs) (c .args .place) (c .args .entry)) old-window;
+      bytes = new-window ∙ c .write-answer .ensures .bytes ∙ ap (λ xs. cond (isOk (c .write-answer .result)) (paste xs (c .args .place * 8) (linkBytes (c .args .entry)) 8) xs) old-window;
       beside =
           behind-same 8 _ _ _ _ (parts _ _ _ _ _ _ _ _ new-name (sym new-from) (sym new-most) new-bytes) new-window
           ∙ kept

@@ -1,4 +1,4 @@
-// Rows piled on rows, and what a caller's memory holds once they are given up.
+// Rows layered on rows, and what a caller's memory holds once they are given up.
 mod links;
 mod numbers;
 

@@ -1,10 +1,14 @@
 // A link pair, stored through three rows: a caller's bytes, a window of them, and link pairs
 // packed into the window.
 ghost use mathlib.Core.Path.{_≡_};
+ghost use mathlib.Core.Bool.{cond};
+ghost use Prim.Native.Nat.{_*_};
 ghost use lib.ListN.{set};
+ghost use lib.Seq.{paste};
 ghost use denote.Ref.{name};
+ghost use Rattle.std.specs.Results.{isOk};
 ghost use Rattle.rows.specs.Cells.{writeAt, window, around};
-ghost use Rattle.codes.specs.Kinds.{linkItem};
+ghost use Rattle.codes.specs.Kinds.{linkBytes, linkItem};
 ghost use Rattle.codes.specs.Packed.{packed, behind};
 use codes::LinkCoded;
 use codes::PackedRow;
@@ -29,6 +33,7 @@ pub fn store_link<'a>(
 ) -> (Result<(), Refusal>, &'a mut [u8])
     ensures value { λ r. ⌜ r .0 ≡ writeAt (packed 8 linkItem (window from most (now (bytes .entry)))) place ⌝ }
     ensures after { λ r. ⌜ packed 8 linkItem (window from most (now (r .1))) ≡ set (packed 8 linkItem (window from most (now (bytes .entry)))) place entry ⌝ }
+    ensures bytes { λ r. ⌜ window from most (now (r .1)) ≡ cond (isOk (r .0)) (paste (window from most (now (bytes .entry))) (place * 8) (linkBytes entry) 8) (window from most (now (bytes .entry))) ⌝ }
     ensures beside { λ r. ⌜ behind (around (name (r .1)) from most (now (r .1))) 8 (window from most (now (r .1))) ≡ behind (around (name (bytes .entry)) from most (now (bytes .entry))) 8 (window from most (now (bytes .entry))) ⌝ }
 {
     let row = WindowRow::new(SliceRow::new(bytes), from, most);
