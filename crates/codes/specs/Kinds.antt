@@ -11,15 +11,18 @@ use Rattle.codes.specs.Little.{littleBytes, littleAt}
 abbrev pub linkBytes : FreeListEntry → List ℕ
 linkBytes e = littleBytes 4 (e .previous) ++ littleBytes 4 (e .next)
 
+-- and back
 abbrev pub linkItem : List ℕ → FreeListEntry
 linkItem string = record { previous = littleAt 4 string 0; next = littleAt 4 string 4 }
 
--- first sample and samples left, four bytes each, then the gains, two bytes each in two's complement
+-- first sample and samples left, four bytes each, then the gains, two bytes each in two's complement:
+-- `ofZ w16` is the 16-bit pattern of a signed number, and `toZ w16` the number of a pattern
 abbrev pub voiceBytes : Voice → List ℕ
 voiceBytes v =
     littleBytes 4 (v .«first_sample»)
     ++ (littleBytes 4 (v .«samples_left») ++ (littleBytes 2 (ofZ w16 (v .«left_gain»)) ++ littleBytes 2 (ofZ w16 (v .«right_gain»))))
 
+-- and back
 abbrev pub voiceItem : List ℕ → Voice
 voiceItem string =
     record {

@@ -13,5 +13,6 @@ packed w item bytes = map (λ i. item (window (i * w) w bytes)) (counting 0 (len
 abbrev pub Behind : Type 0 → Type 0
 Behind O = O × List ℕ
 
+-- of cells of width w, over an outside o
 abbrev pub behind : {O : Type 0} → O → ℕ → List ℕ → Behind O
 behind o w bytes = (o, drop (length bytes / w * w) bytes)

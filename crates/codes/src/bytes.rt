@@ -12,9 +12,11 @@ pub trait ByteArray: Copy {
     // How many there are.
     ghost size: { ℕ };
 
+    // How many bytes there are.
     fn size() -> usize
         ensures { λ r. ⌜ r ≡ size ⌝ };
 
+    // Zeros only.
     fn zeros() -> Self
         ensures { λ r. ⌜ list r ≡ replicate size 0 ⌝ };
 

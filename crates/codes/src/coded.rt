@@ -21,11 +21,13 @@ pub trait Coded: Copy {
         ensures value { λ r. ⌜ r ≡ Bytes·ByteArray .size ⌝ }
         ensures some { λ r. ⌜ 0 < r ⌝ };
 
+    // The bytes of this item, which read as this item.
     fn encode(self) -> Self::Bytes
         ensures value { λ r. ⌜ Bytes·ByteArray .list r ≡ bytes self ⌝ }
         ensures width { λ _. ⌜ length (bytes self) ≡ Bytes·ByteArray .size ⌝ }
         ensures back { λ _. ⌜ item (bytes self) ≡ self ⌝ };
 
+    // The item that `string` reads as.
     fn decode(string: Self::Bytes) -> Self
         ensures { λ r. ⌜ r ≡ item (Bytes·ByteArray .list string) ⌝ };
 }

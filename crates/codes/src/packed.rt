@@ -62,6 +62,7 @@ fn scatter<A: ByteArray, B: Row<Item = u8>>(bytes: &mut B, at: usize, string: A)
 }
 
 impl<K: Coded, B: Row<Item = u8>> PackedRow<K, B> {
+    // A row of the items in the whole groups of bytes.
     pub fn new(bytes: B) -> Self
         ensures cells { λ r. ⌜ packed (Bytes·ByteArray .size) (K·Coded .item) (B·Row .cells (r .bytes)) ≡ packed (Bytes·ByteArray .size) (K·Coded .item) (B·Row .cells bytes) ⌝ }
         ensures row { λ r. ⌜ r .bytes ≡ bytes ⌝ }

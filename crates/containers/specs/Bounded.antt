@@ -13,8 +13,9 @@ use Rattle.std.specs.declared.result.Result.the-variants.{Ok, Err}
 use Rattle.refusal.specs.declared.Refusal.{Refusal}
 use Rattle.refusal.specs.declared.Refusal.the-variants.{NoSpace, NoCell}
 
--- a call answers from the contents before, and leaves contents that come from those before;
--- and the row still has a cell for each place
+-- A call on a container in the state s answered r and left the state s′: its answer and its contents
+-- afterwards come from the contents before, and the row still has a cell for each place. `contents` and
+-- `Backed` are the container's own.
 pub record Means {S T A : Type 0} (contents : S → List T) (Backed : S → Type 0) (s : S) (r : A) (s′ : S) (answer : List T → A) (after : List T → List T) : Type 0 where
   pub value : r ≡ answer (contents s)
   pub holds : contents s′ ≡ after (contents s)

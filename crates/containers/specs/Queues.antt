@@ -18,6 +18,7 @@ use Rattle.refusal.specs.declared.Refusal.the-variants.{PlacePastLength, NoSpac
 use Rattle.rows.specs.Cells.{readAt, writeAt}
 use Rattle.containers.specs.declared.queue.MetaQueue.{MetaQueue}
 
+-- the registers of a queue, and all cells of its row
 pub record QueueState (T : Type 0) : Type 0 where
   pub capacity : ℕ
   pub start : ℕ

@@ -14,6 +14,7 @@ use Rattle.refusal.specs.declared.Refusal.the-variants.{PlacePastLength, NoSpac
 use Rattle.rows.specs.Cells.{readAt, writeAt}
 use Rattle.containers.specs.declared.vec.MetaVec.{MetaVec}
 
+-- the registers of a vector, and all cells of its row
 pub record VecState (T : Type 0) : Type 0 where
   pub capacity : ℕ
   pub len : ℕ

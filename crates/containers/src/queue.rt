@@ -70,7 +70,7 @@ impl<R: Row> MetaQueue<R> {
         ensures value { λ r. ⌜ r ≡ eqb ((queue (R·Row .cells) (now (self .entry))) .len) 0 ⌝ }
         ensures means { λ r. ⌜ (Backed (queue (R·Row .cells) (now (self .entry))) → r ≡ eqb (length (contents (queue (R·Row .cells) (now (self .entry))))) 0) ⌝ }
     {
-        self.position.len == 0
+        self.len() == 0
     }
 
     // How many elements can be held.
@@ -93,7 +93,7 @@ impl<R: Row> MetaQueue<R> {
         ensures value { λ r. ⌜ r ≡ eqb ((queue (R·Row .cells) (now (self .entry))) .len) ((queue (R·Row .cells) (now (self .entry))) .capacity) ⌝ }
         ensures means { λ r. ⌜ (Backed (queue (R·Row .cells) (now (self .entry))) → r ≡ eqb (length (contents (queue (R·Row .cells) (now (self .entry))))) ((queue (R·Row .cells) (now (self .entry))) .capacity)) ⌝ }
     {
-        self.position.len == self.position.capacity
+        self.len() == self.capacity()
     }
 
     // Lets all elements go; `start` stays where it is.

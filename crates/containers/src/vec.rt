@@ -65,7 +65,7 @@ impl<R: Row> MetaVec<R> {
         ensures value { λ r. ⌜ r ≡ eqb ((vector (R·Row .cells) (now (self .entry))) .len) ((vector (R·Row .cells) (now (self .entry))) .capacity) ⌝ }
         ensures means { λ r. ⌜ (Backed (vector (R·Row .cells) (now (self .entry))) → r ≡ eqb (length (contents (vector (R·Row .cells) (now (self .entry))))) ((vector (R·Row .cells) (now (self .entry))) .capacity)) ⌝ }
     {
-        self.extent.len == self.extent.capacity
+        self.len() == self.capacity()
     }
 
     // True where nothing is held.
@@ -73,7 +73,7 @@ impl<R: Row> MetaVec<R> {
         ensures value { λ r. ⌜ r ≡ eqb ((vector (R·Row .cells) (now (self .entry))) .len) 0 ⌝ }
         ensures means { λ r. ⌜ (Backed (vector (R·Row .cells) (now (self .entry))) → r ≡ eqb (length (contents (vector (R·Row .cells) (now (self .entry))))) 0) ⌝ }
     {
-        self.extent.len == 0
+        self.len() == 0
     }
 
     // Adds `value` behind the last element; refused where the vector is full.

@@ -27,5 +27,6 @@ window from most xs = take most (drop from xs)
 abbrev pub Around : Type 0 → Type 0 → Type 0
 Around O T = O × ℕ × ℕ × List T × List T
 
+-- of a window over cells xs, over an outside o
 abbrev pub around : {O T : Type 0} → O → ℕ → ℕ → List T → Around O T
 around o from most xs = (o, from, most, take from xs, drop (from + most) xs)

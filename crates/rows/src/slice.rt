@@ -48,6 +48,8 @@ fn store<T: Copy>(slice: &mut [T], place: usize, value: T) -> Result<(), Refusal
 }
 
 impl<'a, T> SliceRow<'a, T> {
+    // A row of the slice's elements. `name` is the name of the loan by which the caller's memory is
+    // held, so that its end is the caller's own.
     pub fn new(slice: &'a mut [T]) -> Self
         ensures cells { λ r. ⌜ now (r .slice) ≡ now (slice .entry) ⌝ }
         ensures memory { λ r. ⌜ name (r .slice) ≡ name (slice .entry) ⌝ }

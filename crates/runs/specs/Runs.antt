@@ -13,6 +13,7 @@ use Rattle.runs.specs.declared.calls.QueueAnswer.{QueueAnswer}
 use Rattle.runs.specs.declared.calls.QueueAnswer.the-variants.{Done, Number, Refused}
 use Rattle.runs.specs.Calls.{answersTo}
 
+-- a worked run, with what came of it
 pub data Run : Type 0 where
   -- an empty queue of this capacity answers these calls so
   queueRun : (capacity : ℕ) (calls : List QueueCall) (answers : List QueueAnswer) → Run
@@ -27,6 +28,7 @@ Holds (queueRun capacity calls answers) = answersTo capacity [] calls ≡ answer
 Holds (packedRun bytes cells) = (string : List ℕ) → length string ≡ bytes → length (packed 4 (λ s. littleAt 4 s 0) string) ≡ cells
 Holds (windowRun cells from most shown) = (row : List ℕ) → length row ≡ cells → length (window from most row) ≡ shown
 
+-- the worked runs
 abbrev pub runs : List Run
 runs =
     queueRun 3

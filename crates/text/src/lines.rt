@@ -33,6 +33,7 @@ fn first_end(text: &[u8]) -> usize
 }
 
 impl<'a> LineReader<'a> {
+    // All of `text` is still to read.
     pub fn new(text: &'a [u8]) -> Self
         ensures { λ r. ⌜ now (r .rest) ≡ now (text .entry) ⌝ }
     {

@@ -1,4 +1,4 @@
-use mathlib.Core.Path.{refl, sym, ap}
+use mathlib.Core.Path.{sym, ap, _∙_}
 use lib.Dec.{eqb}
 use Rattle.containers.specs.Queues.{queue}
 use Rattle.containers.proofs.Rounds.{length-contents}
@@ -7,4 +7,4 @@ use Rattle.containers.proofs.queue.MetaQueue.is_empty.Needs as need
 pub returns : need.returns
 returns g c =
     let s = queue (g .R·Row .cells) (c .args .self .now) in
-    record { value = refl; means = λ backed. ap (λ n. eqb n 0) (sym (length-contents s (c .args .self .now .position .within) backed)) }
+    record { value = ap (λ n. eqb n 0) (c .len .ensures .value); means = λ backed. ap (λ n. eqb n 0) (c .len .ensures .value ∙ sym (length-contents s (c .args .self .now .position .within) backed)) }

@@ -1,4 +1,4 @@
-use mathlib.Core.Path.{refl, sym, ap}
+use mathlib.Core.Path.{sym, ap, _∙_}
 use lib.Dec.{eqb}
 use Rattle.containers.specs.Vectors.{vector}
 use Rattle.containers.proofs.Vectors.{length-held}
@@ -7,4 +7,4 @@ use Rattle.containers.proofs.vec.MetaVec.is_empty.Needs as need
 pub returns : need.returns
 returns g c =
     let s = vector (g .R·Row .cells) (c .args .self .now) in
-    record { value = refl; means = λ backed. ap (λ n. eqb n 0) (sym (length-held s (c .args .self .now .extent .within) backed)) }
+    record { value = ap (λ n. eqb n 0) (c .len .ensures .value); means = λ backed. ap (λ n. eqb n 0) (c .len .ensures .value ∙ sym (length-held s (c .args .self .now .extent .within) backed)) }
