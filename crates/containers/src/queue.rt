@@ -60,6 +60,7 @@ impl<R: Row> MetaQueue<R> {
         ensures value { λ r. ⌜ r ≡ getAnswer (queue (R·Row .cells) (now (self .entry))) index ⌝ }
         ensures same { λ _. ⌜ (queue (R·Row .cells) (now (self .exit))) ≡ (queue (R·Row .cells) (now (self .entry))) ⌝ }
         ensures means { λ r. ⌜ (Backed (queue (R·Row .cells) (now (self .entry))) → Means contents Backed (queue (R·Row .cells) (now (self .entry))) r (queue (R·Row .cells) (now (self .exit))) (λ xs. okOr (nth xs index) PlacePastLength) (λ xs. xs)) ⌝ }
+        ensures untouched { λ _. ⌜ R·Row .stored (now (self .exit) .row) ≡ R·Row .stored (now (self .entry) .row) ⌝ }
         ensures beside { λ _. ⌜ R·Row .outside (now (self .exit) .row) ≡ R·Row .outside (now (self .entry) .row) ⌝ }
     {
         self.get_impl(index)
@@ -111,6 +112,7 @@ impl<R: Row> MetaQueue<R> {
         ensures value { λ r. ⌜ r ≡ oldestAnswer (queue (R·Row .cells) (now (self .entry))) ⌝ }
         ensures same { λ _. ⌜ (queue (R·Row .cells) (now (self .exit))) ≡ (queue (R·Row .cells) (now (self .entry))) ⌝ }
         ensures means { λ r. ⌜ (Backed (queue (R·Row .cells) (now (self .entry))) → Means contents Backed (queue (R·Row .cells) (now (self .entry))) r (queue (R·Row .cells) (now (self .exit))) (λ xs. Ok (nth xs 0)) (λ xs. xs)) ⌝ }
+        ensures untouched { λ _. ⌜ R·Row .stored (now (self .exit) .row) ≡ R·Row .stored (now (self .entry) .row) ⌝ }
         ensures beside { λ _. ⌜ R·Row .outside (now (self .exit) .row) ≡ R·Row .outside (now (self .entry) .row) ⌝ }
     {
         self.peek_impl()
@@ -153,6 +155,7 @@ impl<R: Row> MetaQueue<R> {
     fn get_impl(&mut self, index: usize) -> Result<R::Item, Refusal>
         ensures value { λ r. ⌜ r ≡ getAnswer (queue (R·Row .cells) (now (self .entry))) index ⌝ }
         ensures same { λ _. ⌜ (queue (R·Row .cells) (now (self .exit))) ≡ (queue (R·Row .cells) (now (self .entry))) ⌝ }
+        ensures untouched { λ _. ⌜ R·Row .stored (now (self .exit) .row) ≡ R·Row .stored (now (self .entry) .row) ⌝ }
         ensures beside { λ _. ⌜ R·Row .outside (now (self .exit) .row) ≡ R·Row .outside (now (self .entry) .row) ⌝ }
     {
         if index < self.position.len as usize {
@@ -165,6 +168,7 @@ impl<R: Row> MetaQueue<R> {
     fn peek_impl(&mut self) -> Result<Option<R::Item>, Refusal>
         ensures value { λ r. ⌜ r ≡ oldestAnswer (queue (R·Row .cells) (now (self .entry))) ⌝ }
         ensures same { λ _. ⌜ (queue (R·Row .cells) (now (self .exit))) ≡ (queue (R·Row .cells) (now (self .entry))) ⌝ }
+        ensures untouched { λ _. ⌜ R·Row .stored (now (self .exit) .row) ≡ R·Row .stored (now (self .entry) .row) ⌝ }
         ensures beside { λ _. ⌜ R·Row .outside (now (self .exit) .row) ≡ R·Row .outside (now (self .entry) .row) ⌝ }
     {
         if self.position.len == 0 {

@@ -111,6 +111,7 @@ impl<R: Row> MetaVec<R> {
         ensures value { λ r. ⌜ r ≡ readAnswer (vector (R·Row .cells) (now (self .entry))) place ⌝ }
         ensures same { λ _. ⌜ (vector (R·Row .cells) (now (self .exit))) ≡ (vector (R·Row .cells) (now (self .entry))) ⌝ }
         ensures means { λ r. ⌜ (Backed (vector (R·Row .cells) (now (self .entry))) → Means contents Backed (vector (R·Row .cells) (now (self .entry))) r (vector (R·Row .cells) (now (self .exit))) (λ xs. okOr (nth xs place) PlacePastLength) (λ xs. xs)) ⌝ }
+        ensures untouched { λ _. ⌜ R·Row .stored (now (self .exit) .row) ≡ R·Row .stored (now (self .entry) .row) ⌝ }
         ensures beside { λ _. ⌜ R·Row .outside (now (self .exit) .row) ≡ R·Row .outside (now (self .entry) .row) ⌝ }
     {
         self.read_impl(place)
@@ -160,6 +161,7 @@ impl<R: Row> MetaVec<R> {
     fn read_impl(&mut self, place: usize) -> Result<R::Item, Refusal>
         ensures value { λ r. ⌜ r ≡ readAnswer (vector (R·Row .cells) (now (self .entry))) place ⌝ }
         ensures same { λ _. ⌜ (vector (R·Row .cells) (now (self .exit))) ≡ (vector (R·Row .cells) (now (self .entry))) ⌝ }
+        ensures untouched { λ _. ⌜ R·Row .stored (now (self .exit) .row) ≡ R·Row .stored (now (self .entry) .row) ⌝ }
         ensures beside { λ _. ⌜ R·Row .outside (now (self .exit) .row) ≡ R·Row .outside (now (self .entry) .row) ⌝ }
     {
         if place < self.extent.len as usize {

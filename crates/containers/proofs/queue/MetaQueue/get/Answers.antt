@@ -9,5 +9,6 @@ returns g c =
       value = c .get-impl .ensures .value;
       same = c .get-impl .ensures .same;
       means = λ backed. get-means q (c .args .self .now .position .begins) (c .args .self .now .position .within) backed (c .args .index) _ _ (c .get-impl .ensures .value) (c .get-impl .ensures .same);
+      untouched = c .get-impl .ensures .untouched;
       beside = c .get-impl .ensures .beside;
     }

@@ -9,5 +9,6 @@ returns g c =
       value = c .peek-impl .ensures .value;
       same = c .peek-impl .ensures .same;
       means = λ backed. peek-means q (c .args .self .now .position .begins) (c .args .self .now .position .within) backed _ _ (c .peek-impl .ensures .value) (c .peek-impl .ensures .same);
+      untouched = c .peek-impl .ensures .untouched;
       beside = c .peek-impl .ensures .beside;
     }

@@ -9,5 +9,6 @@ returns g c =
       value = c .read-impl .ensures .value;
       same = c .read-impl .ensures .same;
       means = λ backed. read-means v (c .args .self .now .extent .within) backed (c .args .place) _ _ (c .read-impl .ensures .value) (c .read-impl .ensures .same);
+      untouched = c .read-impl .ensures .untouched;
       beside = c .read-impl .ensures .beside;
     }
