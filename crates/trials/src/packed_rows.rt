@@ -8,6 +8,7 @@ use crate::flag::FlagCoded;
 use crate::flag::FlagDebug;
 use crate::flag::FlagPartialEq;
 use codes::ByteCoded;
+use codes::Deadline;
 use codes::DeadlineCoded;
 use codes::NumberCoded;
 use codes::PackedRow;
@@ -131,7 +132,7 @@ fn link_pairs_in_a_window_of_bytes() -> Result<(), Fail> {
 
 #[test]
 fn deadlines_in_an_inline_row_of_bytes() -> Result<(), Fail> {
-    let mut row: PackedRow<u64, InlineRow<u8>> = PackedRow::new(InlineRow::filled(0));
+    let mut row: PackedRow<Deadline, InlineRow<u8>> = PackedRow::new(InlineRow::filled(0));
     check_eq(row.count(), 8)?;
     check_eq(row.write(7, 18446744073709551614), Ok(()))?;
     check_eq(row.read(7), Ok(18446744073709551614))?;
