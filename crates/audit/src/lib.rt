@@ -1,4 +1,6 @@
 // The audit of a table: whether its cells and registers stand, by what they hold alone.
+#![tactic(auto)]
+
 mod cells;
 mod keys;
 mod registers;

@@ -1,4 +1,6 @@
 // The table over four rows, how it is made, and the steps on its cells, whatever those are.
+#![tactic(auto)]
+
 mod fresh;
 mod plan;
 mod slotmap;

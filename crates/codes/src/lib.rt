@@ -1,4 +1,6 @@
 // Kinds of cell with a byte form, and rows of them over rows of bytes.
+#![tactic(auto)]
+
 mod bytes;
 mod coded;
 mod kinds;

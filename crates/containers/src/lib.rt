@@ -1,4 +1,6 @@
 // A vector and a queue over any row, for any plain kind of value.
+#![tactic(auto)]
+
 mod capacity;
 mod extent;
 mod position;

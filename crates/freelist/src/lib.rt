@@ -1,4 +1,6 @@
 // The free list of a table, in its row of links: steps on the links, whatever they are.
+#![tactic(auto)]
+
 mod fresh;
 mod links;
 

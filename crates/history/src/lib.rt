@@ -1,4 +1,6 @@
 // The calls of a table as values, and what is promised of a table after any list of them.
+#![tactic(auto)]
+
 ghost use Rattle.history.specs.Theorem.{HistoriesTell, TablesAgree};
 
 mod calls;

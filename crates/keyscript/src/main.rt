@@ -1,4 +1,6 @@
 // Carries out the script that comes on standard input, and prints a line for each of its lines.
+#![tactic(auto)]
+
 use script::transcribe;
 use std::io::Read;
 

@@ -1,4 +1,6 @@
 // Rows layered on rows, and what a caller's memory holds once they are given up.
+#![tactic(auto)]
+
 mod links;
 mod numbers;
 

@@ -1,4 +1,6 @@
 // The table by its meaning, and why the steps on its cells are steps of it.
+#![tactic(auto)]
+
 ghost use Rattle.model.specs.Refinement.{Refinement};
 
 // Each step on the cells of a table is the step on what they mean.

@@ -1,4 +1,6 @@
 // Calls of a table given as values: one call, a list of calls, and a list of calls on a fresh table.
+#![tactic(auto)]
+
 mod making;
 mod performing;
 mod playing;

@@ -1,4 +1,6 @@
 // Prints the last 64 numbers that come on standard input, one a line.
+#![tactic(auto)]
+
 use recents::last_numbers;
 use std::io::Read;
 

@@ -1,4 +1,6 @@
 // The last numbers of a text: the keys of the sounds that stopped last.
+#![tactic(auto)]
+
 mod notes;
 mod printed;
 

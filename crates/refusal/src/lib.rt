@@ -1,4 +1,6 @@
 // The numbered refusals of every call in this repository.
+#![tactic(auto)]
+
 ghost use Rattle.std.specs.Prelude.{◌≡◌, Some, None};
 ghost use Rattle.refusal.specs.Told.{told, spelt};
 

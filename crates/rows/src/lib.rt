@@ -1,4 +1,6 @@
 // Rows of cells: what a table keeps its numbers, links and values in.
+#![tactic(auto)]
+
 mod cell;
 mod inline;
 mod row;

@@ -1,5 +1,7 @@
 // Worked runs: one table of them, one theorem that derives them all, and the calls that
 // perform them.
+#![tactic(auto)]
+
 mod calls;
 mod making;
 mod worked;

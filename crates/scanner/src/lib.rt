@@ -1,4 +1,6 @@
 // The lines of a script, and the commands that they write.
+#![tactic(auto)]
+
 mod command;
 mod scanning;
 

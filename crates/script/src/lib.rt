@@ -1,4 +1,6 @@
 // Scripts of table calls, from the bytes read to the bytes printed.
+#![tactic(auto)]
+
 mod commands;
 mod printing;
 mod transcript;

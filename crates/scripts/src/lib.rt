@@ -1,4 +1,6 @@
 // Tests of scripts, from the bytes read to the bytes printed.
+#![tactic(auto)]
+
 #[cfg(test)]
 mod transcripts;
 

@@ -1,4 +1,6 @@
 // The slot map: a table with stable keys over four rows of cells.
+#![tactic(auto)]
+
 mod iter;
 mod slotmap;
 

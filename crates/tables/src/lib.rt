@@ -1,4 +1,6 @@
 // Tests of the table: over several kinds of memory, with several kinds of value, and at its edges.
+#![tactic(auto)]
+
 #[cfg(test)]
 mod alike;
 #[cfg(test)]

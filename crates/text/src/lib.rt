@@ -1,4 +1,6 @@
 // Lines of bytes, and the numbers that they write.
+#![tactic(auto)]
+
 mod decimal;
 mod lines;
 

@@ -1,4 +1,6 @@
 // Tests of the layers below, and a kind of cell of a caller's own.
+#![tactic(auto)]
+
 mod colour;
 mod flag;
 #[cfg(test)]

@@ -6,20 +6,20 @@ use Rattle.text.proofs.decimal.number.Goals as goal
 pub loop-byte-init : goal.loop-byte-init
 loop-byte-init c = (refl, omega arith)
 
-pub returns-then-not-is-ascii-digit : goal.returns-then-not-is-ascii-digit
-returns-then-not-is-ascii-digit c =
+pub returns-then-not-is_ascii_digit : goal.returns-then-not-is_ascii_digit
+returns-then-not-is_ascii_digit c =
     let stops = scan_stops c.loop-byte.value c.args.line.now c.loop-byte.byte-index c.loop-byte-test.true (sym c.if-not-is-ascii-digit.ensures.value) in
     number_none c.args.line.now (sym c.loop-byte.invariant.0 ∙ stops)
 
-pub overflow-mul-value : goal.overflow-mul-value
-overflow-mul-value c = omega (arith, digits_fit c.loop-byte.value c.loop-byte.byte-index c.loop-byte.invariant.1 (omega arith))
+pub overflow_mul-value : goal.overflow_mul-value
+overflow_mul-value c = omega (arith, digits_fit c.loop-byte.value c.loop-byte.byte-index c.loop-byte.invariant.1 (omega arith))
 
-pub overflow-add-value : goal.overflow-add-value
-overflow-add-value c = omega (arith, digits_fit c.loop-byte.value c.loop-byte.byte-index c.loop-byte.invariant.1 (omega arith))
+pub overflow_add-value : goal.overflow_add-value
+overflow_add-value c = omega (arith, digits_fit c.loop-byte.value c.loop-byte.byte-index c.loop-byte.invariant.1 (omega arith))
 
 pub loop-byte-preserved : goal.loop-byte-preserved
 loop-byte-preserved c =
-    let digit = c.if-not-is-ascii-digit.ensures.cases in (
+    let digit = c.if-not-is_ascii_digit.ensures.cases in (
       sym (scan_more c.loop-byte.value c.args.line.now c.loop-byte.byte-index c.loop-byte-test.true digit.0 digit.1) ∙ c.loop-byte.invariant.0,
       digits_more c.loop-byte.value c.loop-byte.byte-index _ c.loop-byte.invariant.1 (omega arith),
     )

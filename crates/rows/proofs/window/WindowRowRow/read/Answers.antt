@@ -3,8 +3,8 @@ use Rattle.rows.specs.Cells.{read_at, window}
 use Rattle.rows.proofs.Cells.{cells_laws, window_within, window_read, around_same}
 use Rattle.rows.proofs.window.WindowRowRow.read.Goals as goal
 
-pub overflow-add-self : goal.overflow-add-self
-overflow-add-self g c =
+pub overflow_add-self : goal.overflow_add-self
+overflow_add-self g c =
     let h = window_within c.args.self.now.from c.args.self.now.most c.args.place (g.R.Row.cells c.args.self.now.row) (omega arith) in
     omega arith
 

@@ -11,8 +11,8 @@ use Rattle.text.proofs.lines.LineReader.next_line.Goals.{then-end-text, else-end
 pub returns : goal.returns
 returns c =
     let text = c.args.self.now.rest.now in
-    let end = c.first-end-end.result in
-    let ends = c.first-end-end.ensures in
+    let end = c.first_end-end.result in
+    let ends = c.first_end-end.ensures in
     let some = lt-ltb 0 (length text) (omega arith) in
     record {
       value =
