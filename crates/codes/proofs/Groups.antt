@@ -3,7 +3,7 @@ use Rattle.std.proofs.Common.{◌≡◌, ℕ, ◌+◌, ◌-◌, ◌*◌, ◌/◌
 use lib.Seq.{paste}
 use Rattle.std.proofs.lemmas.List.FromFn.{length-map-range_with_len, get_or-map-range_with_len}
 use Rattle.std.proofs.lemmas.List.Edits.{paste_none, paste_more, paste_all, length-paste, drop-paste}
-use Rattle.std.proofs.lemmas.List.{append_nil, drop_all, drop_at, drop-drop, drop-take, get_or-set_same, get_or-set_other, length-replicate, length-set, length-take-le, same_lists, take-append-le, take_at, take-take}
+use Rattle.std.proofs.lemmas.List.{append-nil, drop_all, drop_at, drop-drop, drop-take, get_or-set_same, get_or-set_other, length-replicate, length-set, length-take-le, same_lists, take-append-le, take_at, take-take}
 use Rattle.std.proofs.lemmas.Bool.{cases_eq, cases_lt}
 use Rattle.rows.specs.Cells.{read_at, window}
 use Rattle.rows.proofs.Cells.{read_within}
@@ -24,7 +24,7 @@ pub gather_all : (s : List ℕ) (n : ℕ) → length s ≡ n → paste (replicat
 gather_all s n e =
     paste_all (replicate n 0) 0 s n (sym e)
     ∙ ap (λ t. s ++ t) (drop_all (0 + n) (replicate n 0) (simp length-replicate (omega arith)))
-    ∙ append_nil s
+    ∙ append-nil s
 
 -- group i lies within the bytes, and within the whole groups
 pub group_within : (n w i : ℕ) → 0 < w → i < n / w → i * w + w ≤ n / w * w

@@ -1,10 +1,10 @@
 -- Lists by their last element.
 use Rattle.std.proofs.Common.{◌≡◌, ℕ, ◌⊎◌, List, [], ◌∷◌, ◌++◌, sym, subst, inl, inr, ⊎_elim, arith}
 use Rattle.std.specs.List.{AllByRecursion as All}
-use Rattle.std.proofs.lemmas.List.{append_nil, append_assoc}
+use Rattle.std.proofs.lemmas.List.{append-nil, append_assoc}
 
 more_ends : {A : Type 0} (M : List A → Type 0) → ((h : List A) (e : A) → M h → M (h ++ e ∷ [])) → (g h : List A) → M g → M (g ++ h)
-more_ends M more g [] m = subst M (sym (append_nil g)) m
+more_ends M more g [] m = subst M (sym (append-nil g)) m
 more_ends M more g (e ∷ h) m = subst M (append_assoc g (e ∷ []) h) (more_ends M more (g ++ e ∷ []) h (more g e m))
 
 -- what holds of the empty list, and of a list with one more element where it holds of the list

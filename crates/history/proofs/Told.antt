@@ -1,7 +1,7 @@
 -- What a history tells of the table by its meaning.
 use Rattle.std.proofs.Common.{◌≡◌, ℕ, zero, suc, ◌+◌, ◌<◌, ◌≤◌, ◌⊎◌, List, [], ◌∷◌, ◌++◌, Some, sym, refl, ap, ◌∙◌, subst, inr, arith}
 use Rattle.std.specs.List.{range_with_len}
-use Rattle.std.proofs.lemmas.List.{append_nil, append_assoc}
+use Rattle.std.proofs.lemmas.List.{append-nil, append_assoc}
 use Rattle.model.specs.Counts.{count}
 use Rattle.model.specs.Tables.{Table, fresh}
 use Rattle.model.proofs.Sums.{same_no}
@@ -59,7 +59,7 @@ module _ {V : Type 0} (C : ℕ) (h : List (Event V)) (t : Table V) (told : Told 
 -- a history whose events answered as the table does
 pub told_on : {V : Type 0} (C : ℕ) (g : List (Event V)) (t : Table V) (h : List (Event V)) → Told C g t
     → answers h ≡ answers_to t (calls h) → Told C (g ++ h) (after_all t (calls h))
-told_on C g t [] told p = subst (λ x. Told C x t) (sym (append_nil g)) told
+told_on C g t [] told p = subst (λ x. Told C x t) (sym (append-nil g)) told
 told_on C g t (e ∷ h) told p =
     let here : e.answer ≡ answer_to t e.call = cc in
     let rest : answers h ≡ answers_to (after t e.call) (calls h) = cc in

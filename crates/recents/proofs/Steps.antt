@@ -1,6 +1,6 @@
 -- One line more, and one number less, over lists alone.
 use Rattle.std.proofs.Common.{◌≡◌, ℕ, ◌+◌, ◌<◌, ◌≤◌, false, cond, ltb, List, [], ◌∷◌, ◌++◌, length, drop, is_ok, Some, None, Ok, Err, Result, sym, refl, ap, ◌∙◌, arith}
-use Rattle.std.proofs.lemmas.List.{append_assoc, append_nil, nil_from_length}
+use Rattle.std.proofs.lemmas.List.{append_assoc, append-nil, nil_from_length}
 use Rattle.std.proofs.lemmas.Bool.{ltb-false}
 use Rattle.std.specs.List.{slice_get, flat_map}
 use Rattle.std.specs.Option.{option_to_list}
@@ -24,10 +24,10 @@ said_more err err' place line rest e =
     ap (λ xs. xs ++ complaints (place + 1) rest) e ∙ append_assoc err (complained place line) (complaints (place + 1) rest)
 
 pub held_all : (c : ℕ) (held : List ℕ) (ls : List (List ℕ)) → length held ≤ c → ls ≡ [] → latest c (held ++ numbers ls) ≡ held
-held_all c held ls few e = ap (λ xs. latest c (held ++ numbers xs)) e ∙ ap (latest c) (append_nil held) ∙ latest_all c held few
+held_all c held ls few e = ap (λ xs. latest c (held ++ numbers xs)) e ∙ ap (latest c) (append-nil held) ∙ latest_all c held few
 
 pub said_all : (err : List ℕ) (place : ℕ) (ls : List (List ℕ)) → ls ≡ [] → err ++ complaints place ls ≡ err
-said_all err place ls e = ap (λ xs. err ++ complaints place xs) e ∙ append_nil err
+said_all err place ls e = ap (λ xs. err ++ complaints place xs) e ∙ append-nil err
 
 -- a number taken from the front and printed
 pub first_out : (f : ℕ → List ℕ) (xs : List ℕ) (n : ℕ) → slice_get xs 0 ≡ Some n → flat_map f xs ≡ f n ++ flat_map f (drop 1 xs)

@@ -1,6 +1,6 @@
 -- What begins a legal line goes on to one: its numbers go on with zeros.
 use Rattle.std.proofs.Common.{◌≡◌, ℕ, zero, suc, ◌<◌, true, ◌||◌, eqb, List, [], ◌∷◌, ◌++◌, map, length, Some, None, Option, refl, ap, ◌∙◌, ⊎_elim, arith}
-use Rattle.std.proofs.lemmas.List.{append_nil, length-map, nil_from_length}
+use Rattle.std.proofs.lemmas.List.{append-nil, length-map, nil_from_length}
 use Rattle.std.proofs.lemmas.Bool.{false≢true, and_parts, and_from, or_cases, eqb-true, cond-true}
 use Rattle.std.specs.Str.Parse.{digits_value}
 use Rattle.text.specs.Lines.{onto}
@@ -78,7 +78,7 @@ fill_last n w e =
     ⊎_elim
     (λ (number : is_number w ≡ true). (
       zeros n,
-      rw words_zeros (rw append_nil (filled_more n w (zero_words n) number (zeros_filled n))),
+      rw words_zeros (rw append-nil (filled_more n w (zero_words n) number (zeros_filled n))),
     ))
     (λ (none : eqb (length w) 0 ≡ true). (
       48 ∷ zeros n,

@@ -4,10 +4,10 @@ use Rattle.std.proofs.lemmas.Int.Digits.{digits_value_more}
 use Rattle.std.proofs.lemmas.List.{length-append, length-take-le, take_more}
 use Rattle.std.proofs.lemmas.Bool.{cases_Bool, both_ways, and_parts, and_from, or_cases, or_left, ltb-true, lt-ltb, leb-true, le-leb, eqb-true}
 use Rattle.std.specs.Str.Parse.{digits_value, digits_value_after}
-use Rattle.std.specs.Char.{is_ascii_digit, digit_value as digitValue}
+use Rattle.std.specs.Char.{is_ascii_digit, digit_value}
 use Rattle.std.specs.Str.{all_ascii_digits}
 use Rattle.text.specs.Numbers.{is_number}
-use Rattle.text.proofs.Scans.{digit_value, digit_test}
+use Rattle.text.proofs.Scans.{digit_value_is, digit_test}
 use Rattle.scanner.specs.Leading.{Leads}
 
 -- what a number is, part by part
@@ -39,11 +39,11 @@ digits_begin (c ∷ w) v e = let both = and_parts (is_ascii_digit c) (all_ascii_
 
 after_more : (n : ℕ) (v : List ℕ) → n ≤ digits_value_after 10 n v
 after_more n [] = omega arith
-after_more n (c ∷ v) = omega (arith, after_more (n * 10 + digitValue c) v)
+after_more n (c ∷ v) = omega (arith, after_more (n * 10 + digit_value c) v)
 
 value_begin : (n : ℕ) (w v : List ℕ) → digits_value_after 10 n w ≤ digits_value_after 10 n (w ++ v)
 value_begin n [] v = after_more n v
-value_begin n (c ∷ w) v = value_begin (n * 10 + digitValue c) w v
+value_begin n (c ∷ w) v = value_begin (n * 10 + digit_value c) w v
 
 -- each beginning of a number that has a digit is a number
 pub number_begin : (w v : List ℕ) → 0 < length w → is_number (w ++ v) ≡ true → is_number w ≡ true
@@ -107,7 +107,7 @@ module _ (text : List ℕ) (v i : ℕ) (r : Read text v i) where
   valued_more : i < length text → 48 ≤ get_or text i 0 → get_or text i 0 ≤ 57 → v * 10 + (get_or text i 0 - 48) ≡ digits_value 10 (take (i + 1) text)
   valued_more more low high =
       ap (λ n. n * 10 + (get_or text i 0 - 48)) r.valued
-      ∙ ap (λ d. digits_value 10 (take i text) * 10 + d) (sym (digit_value (get_or text i 0) low high))
+      ∙ ap (λ d. digits_value 10 (take i text) * 10 + d) (sym (digit_value_is (get_or text i 0) low high))
       ∙ sym (digits_value_more 10 text i more)
 
   -- the next digit makes the number too large

@@ -1,6 +1,6 @@
 -- The words of a line that goes on.
 use Rattle.std.proofs.Common.{◌≡◌, ℕ, ◌<◌, true, false, cond, eqb, List, [], ◌∷◌, ◌++◌, length, sym, refl, ap, ◌∙◌, arith}
-use Rattle.std.proofs.lemmas.List.{append_nil, length-append}
+use Rattle.std.proofs.lemmas.List.{append-nil, length-append}
 use Rattle.std.proofs.lemmas.Bool.{and_parts, leb-true, ne_eqb, cond-false}
 use Rattle.std.specs.Char.{is_ascii_digit}
 use Rattle.std.specs.Str.{all_ascii_digits}
@@ -56,7 +56,7 @@ words_on (b ∷ p) q =
 -- a blank begins a new word
 glue_blank : (ws vs : List (List ℕ)) → 0 < length ws → glue ws ([] ∷ vs) ≡ ws ++ vs
 glue_blank [] vs some = absurd (omega arith)
-glue_blank (w ∷ []) vs some = ap (λ u. u ∷ vs) (append_nil w)
+glue_blank (w ∷ []) vs some = ap (λ u. u ∷ vs) (append-nil w)
 glue_blank (w ∷ (x ∷ ws)) vs some = ap (λ us. w ∷ us) (glue_blank (x ∷ ws) vs (omega arith))
 
 pub words_blank : (p q : List ℕ) → words (p ++ (32 ∷ q)) ≡ words p ++ words q

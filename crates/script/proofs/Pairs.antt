@@ -1,5 +1,5 @@
 -- The pairs that a walk over the holding keys meets.
-use Rattle.std.proofs.Common.{◌≡◌, ℕ, zero, suc, ◌+◌, ◌-◌, ◌<◌, ◌≤◌, List, [], ◌∷◌, ◌++◌, Some, None, codes, Option, sym, refl, ap, ◌∙◌, append_assoc, append_nil, arith}
+use Rattle.std.proofs.Common.{◌≡◌, ℕ, zero, suc, ◌+◌, ◌-◌, ◌<◌, ◌≤◌, List, [], ◌∷◌, ◌++◌, Some, None, codes, Option, sym, refl, ap, ◌∙◌, append_assoc, append-nil, arith}
 use Rattle.std.specs.List.{range_with_len, flat_map}
 use Rattle.std.specs.Option.{option_map, option_or, option_to_list}
 use Rattle.model.specs.Tables.{Table, first_held, step_answer}
@@ -72,7 +72,7 @@ pairs_step t p new x before blank now start e en eb ep es =
 
 -- and none is left
 pub pairs_end : (t : Table ℕ) (p : ℕ) (now start : List ℕ) → None ≡ step_answer t p → now ++ blank_pairs (pairs_from t p) ≡ start → now ≡ start
-pairs_end t p now start e es = sym (append_nil now) ∙ ap (λ q. now ++ blank_pairs q) (sym (pairs_none t p (sym e))) ∙ es
+pairs_end t p now start e es = sym (append-nil now) ∙ ap (λ q. now ++ blank_pairs q) (sym (pairs_none t p (sym e))) ∙ es
 
 -- a list of pairs that has a first one
 pub pairs_first : (t : Table ℕ) (p new : ℕ) (x : ℕ × ℕ) (before first now : List ℕ) → Some x ≡ step_answer t p → new ≡ x.0 + 1

@@ -5,14 +5,14 @@ use Rattle.std.proofs.lemmas.List.{at_drop_more}
 use Rattle.std.proofs.lemmas.Bool.{cases_Bool, cond-true, cond-false, and_from, and_left, and_right, le-leb, lt-leb, lt-ltb, le-ltb}
 use Rattle.std.specs.Bool.{then_some}
 use Rattle.std.specs.Str.Parse.{digits_value, digits_value_after}
-use Rattle.std.specs.Char.{is_ascii_digit, digit_value as digitValue}
+use Rattle.std.specs.Char.{is_ascii_digit, digit_value}
 use Rattle.std.specs.Str.{all_ascii_digits}
 use Rattle.text.specs.Numbers.{is_number, number_of}
 
 -- what a text of digits writes after the number n, unless a byte is no digit
 abbrev pub scan : ℕ → List ℕ → Option ℕ
 scan n [] = Some n
-scan n (c ∷ cs) = cond (is_ascii_digit c) (scan (n * 10 + digitValue c) cs) None
+scan n (c ∷ cs) = cond (is_ascii_digit c) (scan (n * 10 + digit_value c) cs) None
 
 pub scan_is : (n : ℕ) (cs : List ℕ) → scan n cs ≡ then_some (all_ascii_digits cs) (digits_value_after 10 n cs)
 scan_is n [] = refl
@@ -20,16 +20,16 @@ scan_is n (c ∷ cs) =
     ⊎_elim
     (λ (yes-digit : is_ascii_digit c ≡ true).
     cond-true _ _ _ yes-digit
-    ∙ scan_is (n * 10 + digitValue c) cs
-    ∙ sym (ap (λ b. then_some (b && all_ascii_digits cs) (digits_value_after 10 (n * 10 + digitValue c) cs)) yes-digit))
+    ∙ scan_is (n * 10 + digit_value c) cs
+    ∙ sym (ap (λ b. then_some (b && all_ascii_digits cs) (digits_value_after 10 (n * 10 + digit_value c) cs)) yes-digit))
     (λ (no_digit : is_ascii_digit c ≡ false).
     cond-false _ _ _ no_digit
-    ∙ sym (ap (λ b. then_some (b && all_ascii_digits cs) (digits_value_after 10 (n * 10 + digitValue c) cs)) no_digit))
+    ∙ sym (ap (λ b. then_some (b && all_ascii_digits cs) (digits_value_after 10 (n * 10 + digit_value c) cs)) no_digit))
     (cases_Bool (is_ascii_digit c))
 
 -- a digit writes its distance from 0
-pub digit_value : (c : ℕ) → 48 ≤ c → c ≤ 57 → digitValue c ≡ c - 48
-digit_value c low high = cond-false _ _ _ (le-ltb c 48 low) ∙ cond-true _ _ _ (lt-ltb c 58 (omega arith))
+pub digit_value_is : (c : ℕ) → 48 ≤ c → c ≤ 57 → digit_value c ≡ c - 48
+digit_value_is c low high = cond-false _ _ _ (le-ltb c 48 low) ∙ cond-true _ _ _ (lt-ltb c 58 (omega arith))
 
 pub digit_test : (c : ℕ) → 48 ≤ c → c ≤ 57 → is_ascii_digit c ≡ true
 digit_test c low high = and_from _ _ (le-leb 48 c low) (le-leb c 57 high)
@@ -40,7 +40,7 @@ pub scan_more : (n : ℕ) (line : List ℕ) (i : ℕ) → i < length line → 48
 scan_more n line i h low high =
     at_drop_more (scan n) line i 0 h
     ∙ cond-true _ _ _ (digit_test (get_or line i 0) low high)
-    ∙ ap (λ d. scan (n * 10 + d) (drop (i + 1) line)) (digit_value (get_or line i 0) low high)
+    ∙ ap (λ d. scan (n * 10 + d) (drop (i + 1) line)) (digit_value_is (get_or line i 0) low high)
 
 -- a byte that is no digit
 pub scan_stops : (n : ℕ) (line : List ℕ) (i : ℕ) → i < length line → is_ascii_digit (get_or line i 0) ≡ false → scan n (drop i line) ≡ None

@@ -1,5 +1,5 @@
 use Rattle.std.proofs.Common.{cond, [], ◌++◌, is_some, string_bytes, sym, refl, ap, ◌∙◌, arith}
-use Rattle.std.proofs.lemmas.List.{append_nil}
+use Rattle.std.proofs.lemmas.List.{append-nil}
 use Rattle.std.specs.Option.{option_to_list}
 use Rattle.containers.specs.Bounded.{latest}
 use Rattle.containers.specs.Queues.{queue, contents}
@@ -17,7 +17,7 @@ returns-in-ok-complain g c =
     record {
       backed = c.requires;
       capacity = refl;
-      held = sym (ap (λ o. latest q.capacity (contents q ++ option_to_list o)) (sym none) ∙ ap (latest q.capacity) (append_nil (contents q)) ∙ latest_all q.capacity (contents q) (omega arith));
+      held = sym (ap (λ o. latest q.capacity (contents q ++ option_to_list o)) (sym none) ∙ ap (latest q.capacity) (append-nil (contents q)) ∙ latest_all q.capacity (contents q) (omega arith));
       err =
           c.in-ok-complain.ensures
           ∙ ap (λ o. string_bytes c.args.err.now ++ cond (is_some o) [] (complaint c.args.place)) none;

@@ -1,5 +1,5 @@
 use Rattle.std.proofs.Common.{◌++◌, length, string_bytes, sym, refl, ap, ◌∙◌, arith}
-use Rattle.std.proofs.lemmas.List.{append_assoc, append_nil, length-drop}
+use Rattle.std.proofs.lemmas.List.{append_assoc, append-nil, length-drop}
 use Rattle.std.specs.List.{flat_map}
 use Rattle.containers.specs.Queues.{queue, contents}
 use Rattle.recents.specs.Recent.{number_line}
@@ -36,4 +36,4 @@ pub returns : goal.returns
 returns g c =
     let old = contents (queue g.R.Row.cells c.loop-n.queue) in
     let out = string_bytes c.loop-n.out in
-    sym (ap (λ xs. out ++ flat_map number_line xs) (none_left old (sym c.in-default.ensures.value)) ∙ append_nil out) ∙ c.loop-n.invariant.1
+    sym (ap (λ xs. out ++ flat_map number_line xs) (none_left old (sym c.in-default.ensures.value)) ∙ append-nil out) ∙ c.loop-n.invariant.1

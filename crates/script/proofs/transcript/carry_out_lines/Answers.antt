@@ -1,4 +1,4 @@
-use Rattle.std.proofs.Common.{◌≡◌, ℕ, [], ◌∷◌, ◌++◌, length, string_bytes, sym, refl, ap, ◌∙◌, append_assoc, append_nil, arith}
+use Rattle.std.proofs.Common.{◌≡◌, ℕ, [], ◌∷◌, ◌++◌, length, string_bytes, sym, refl, ap, ◌∙◌, append_assoc, append-nil, arith}
 use Rattle.std.proofs.lemmas.Bool.{ltb-true}
 use Rattle.scanner.specs.Legal.{scanned}
 use Rattle.text.specs.Lines.{lines}
@@ -34,4 +34,4 @@ returns c t h =
     let i = c.loop-line.invariant t h in
     let out = string_bytes c.loop-line.out in
     let none = no_lines c.loop-line.reader.rest.now c.in-default.ensures.test in
-    sym (append_nil out) ∙ ap (λ ls. out ++ printed i.0 ls) (sym none) ∙ i.2
+    sym (append-nil out) ∙ ap (λ ls. out ++ printed i.0 ls) (sym none) ∙ i.2

@@ -8,7 +8,7 @@ loop-byte-init c = (refl, omega arith)
 
 pub returns-then-not-is_ascii_digit : goal.returns-then-not-is_ascii_digit
 returns-then-not-is_ascii_digit c =
-    let stops = scan_stops c.loop-byte.value c.args.line.now c.loop-byte.byte-index c.loop-byte-test.true (sym c.if-not-is-ascii-digit.ensures.value) in
+    let stops = scan_stops c.loop-byte.value c.args.line.now c.loop-byte.byte-index c.loop-byte-test.true (sym c.if-not-is_ascii_digit.ensures.value) in
     number_none c.args.line.now (sym c.loop-byte.invariant.0 ∙ stops)
 
 pub overflow_mul-value : goal.overflow_mul-value

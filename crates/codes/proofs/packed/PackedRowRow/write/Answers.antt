@@ -6,8 +6,8 @@ use Rattle.codes.specs.Packed.{packed, behind}
 use Rattle.codes.proofs.Groups.{length_packed, packed_write, behind_write, behind_same, group_fits}
 use Rattle.codes.proofs.packed.PackedRowRow.write.Goals as goal
 
-pub overflow-mul-at : goal.overflow-mul-at
-overflow-mul-at g c =
+pub overflow_mul-at : goal.overflow_mul-at
+overflow_mul-at g c =
     let fits = group_fits (length (g.B.Row.cells c.args.self.now.bytes)) g.K.Bytes.ByteArray.size c.args.place c.whole.ensures.some (omega arith) in
     omega (arith, ap (λ w. c.args.place * w) c.width.ensures.value)
 

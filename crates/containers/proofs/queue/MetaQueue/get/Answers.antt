@@ -6,9 +6,9 @@ pub returns : goal.returns
 returns g c =
     let q = queue g.R.Row.cells c.args.self.now in
     record {
-      value = c.get-impl.ensures.value;
-      same = c.get-impl.ensures.same;
-      means = λ backed. get_means q c.args.self.now.position.begins c.args.self.now.position.within backed c.args.index _ _ c.get-impl.ensures.value c.get-impl.ensures.same;
-      untouched = c.get-impl.ensures.untouched;
-      beside = c.get-impl.ensures.beside;
+      value = c.get_impl.ensures.value;
+      same = c.get_impl.ensures.same;
+      means = λ backed. get_means q c.args.self.now.position.begins c.args.self.now.position.within backed c.args.index _ _ c.get_impl.ensures.value c.get_impl.ensures.same;
+      untouched = c.get_impl.ensures.untouched;
+      beside = c.get_impl.ensures.beside;
     }

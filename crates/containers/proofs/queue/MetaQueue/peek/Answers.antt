@@ -6,9 +6,9 @@ pub returns : goal.returns
 returns g c =
     let q = queue g.R.Row.cells c.args.self.now in
     record {
-      value = c.peek-impl.ensures.value;
-      same = c.peek-impl.ensures.same;
-      means = λ backed. peek_means q c.args.self.now.position.begins c.args.self.now.position.within backed _ _ c.peek-impl.ensures.value c.peek-impl.ensures.same;
-      untouched = c.peek-impl.ensures.untouched;
-      beside = c.peek-impl.ensures.beside;
+      value = c.peek_impl.ensures.value;
+      same = c.peek_impl.ensures.same;
+      means = λ backed. peek_means q c.args.self.now.position.begins c.args.self.now.position.within backed _ _ c.peek_impl.ensures.value c.peek_impl.ensures.same;
+      untouched = c.peek_impl.ensures.untouched;
+      beside = c.peek_impl.ensures.beside;
     }

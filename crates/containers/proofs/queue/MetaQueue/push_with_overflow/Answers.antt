@@ -6,9 +6,9 @@ pub returns : goal.returns
 returns g c =
     let q = queue g.R.Row.cells c.args.self.now in
     record {
-      value = c.push-with-overflow-impl.ensures.value;
-      after = c.push-with-overflow-impl.ensures.after;
-      means = λ backed. overflow_means q c.args.self.now.position.begins c.args.self.now.position.within backed c.args.value _ _ c.push-with-overflow-impl.ensures.value c.push-with-overflow-impl.ensures.after;
-      kept = c.push-with-overflow-impl.ensures.kept;
-      beside = c.push-with-overflow-impl.ensures.beside;
+      value = c.push_with_overflow_impl.ensures.value;
+      after = c.push_with_overflow_impl.ensures.after;
+      means = λ backed. overflow_means q c.args.self.now.position.begins c.args.self.now.position.within backed c.args.value _ _ c.push_with_overflow_impl.ensures.value c.push_with_overflow_impl.ensures.after;
+      kept = c.push_with_overflow_impl.ensures.kept;
+      beside = c.push_with_overflow_impl.ensures.beside;
     }

@@ -6,9 +6,9 @@ pub returns : goal.returns
 returns g c =
     let v = vector g.R.Row.cells c.args.self.now in
     record {
-      value = c.pop-impl.ensures.value;
-      after = c.pop-impl.ensures.after;
-      means = λ backed. pop_means v c.args.self.now.extent.within backed _ _ c.pop-impl.ensures.value c.pop-impl.ensures.after;
-      untouched = c.pop-impl.ensures.untouched;
-      beside = c.pop-impl.ensures.beside;
+      value = c.pop_impl.ensures.value;
+      after = c.pop_impl.ensures.after;
+      means = λ backed. pop_means v c.args.self.now.extent.within backed _ _ c.pop_impl.ensures.value c.pop_impl.ensures.after;
+      untouched = c.pop_impl.ensures.untouched;
+      beside = c.pop_impl.ensures.beside;
     }

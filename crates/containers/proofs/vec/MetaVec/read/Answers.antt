@@ -6,9 +6,9 @@ pub returns : goal.returns
 returns g c =
     let v = vector g.R.Row.cells c.args.self.now in
     record {
-      value = c.read-impl.ensures.value;
-      same = c.read-impl.ensures.same;
-      means = λ backed. read_means v c.args.self.now.extent.within backed c.args.place _ _ c.read-impl.ensures.value c.read-impl.ensures.same;
-      untouched = c.read-impl.ensures.untouched;
-      beside = c.read-impl.ensures.beside;
+      value = c.read_impl.ensures.value;
+      same = c.read_impl.ensures.same;
+      means = λ backed. read_means v c.args.self.now.extent.within backed c.args.place _ _ c.read_impl.ensures.value c.read_impl.ensures.same;
+      untouched = c.read_impl.ensures.untouched;
+      beside = c.read_impl.ensures.beside;
     }

@@ -6,9 +6,9 @@ pub returns : goal.returns
 returns g c =
     let v = vector g.R.Row.cells c.args.self.now in
     record {
-      value = c.write-impl.ensures.value;
-      after = c.write-impl.ensures.after;
-      means = λ backed. write_means v c.args.self.now.extent.within backed c.args.place c.args.value _ _ c.write-impl.ensures.value c.write-impl.ensures.after;
-      kept = c.write-impl.ensures.kept;
-      beside = c.write-impl.ensures.beside;
+      value = c.write_impl.ensures.value;
+      after = c.write_impl.ensures.after;
+      means = λ backed. write_means v c.args.self.now.extent.within backed c.args.place c.args.value _ _ c.write_impl.ensures.value c.write_impl.ensures.after;
+      kept = c.write_impl.ensures.kept;
+      beside = c.write_impl.ensures.beside;
     }
