@@ -125,7 +125,7 @@ key_step {V} C h e t t' size (filling k v b f p) told j =
     subst (λ (u : Table V). KeyTold C g j (u.held j) (count j u.free)) (sym p)
     (⊎_elim
     (λ (q : j ≡ k).
-    told_same C g j (Some v) _ 0 _ (update_same eqb t.held k (Some v) j (eq-eqb j k q))
+    told_same C g j (Some v) _ 0 _ (update_same eqb t.held k (Some v) j (eq-eqb k j (sym q)))
     (ap (λ x. count x (without k t.free)) q ∙ count_without k t.free (told_once C h k (t.held k) _ (told k)))
     (told_filled C h e j v 0 (subst (λ x. Fills x v e) (sym q) f) (omega arith) refl))
     (λ (q : j ≡ k → ⊥).
@@ -138,7 +138,7 @@ key_step {V} C h e t t' size (replacing k v w r held p) told j =
     subst (λ (u : Table V). KeyTold C g j (u.held j) (count j u.free)) (sym p)
     (⊎_elim
     (λ (q : j ≡ k).
-    told_same C g j (Some v) _ (count j t.free) _ (update_same eqb t.held k (Some v) j (eq-eqb j k q)) refl
+    told_same C g j (Some v) _ (count j t.free) _ (update_same eqb t.held k (Some v) j (eq-eqb k j (sym q))) refl
     (told_replaced C h e j v w (count j t.free) (subst (λ x. Replaces x v e) (sym q) r)
     (told_same C h j (t.held j) (Some w) _ _ (sym (ap t.held q ∙ held)) refl (told j))))
     (λ (q : j ≡ k → ⊥).
@@ -151,7 +151,7 @@ key_step {V} C h e t t' size (emptying k w m held p) told j =
     subst (λ (u : Table V). KeyTold C g j (u.held j) (count j u.free)) (sym p)
     (⊎_elim
     (λ (q : j ≡ k).
-    told_same C g j None _ _ _ (update_same eqb t.held k None j (eq-eqb j k q)) refl
+    told_same C g j None _ _ _ (update_same eqb t.held k None j (eq-eqb k j (sym q))) refl
     (told_emptied C h e j w (count j t.free) (count j (k ∷ t.free)) (subst (λ x. Empties x e) (sym q) m) (omega (arith, same_yes j k q))
     (told_same C h j (t.held j) (Some w) _ _ (sym (ap t.held q ∙ held)) refl (told j))))
     (λ (q : j ≡ k → ⊥).

@@ -109,7 +109,7 @@ module _ (ls ms : List FreeListEntry) (C : ℕ) (small : C ≤ 65535) (k a b : �
       let na : x ≢ a = λ e. apart_first a x xs za (sym e) in
       let nb : x ≢ b = λ e. apart_first b x xs zb (sym e) in
       let r = cut_rest x (next_at ls x) xs (apart_rest k x xs zk) (apart_rest a x xs za) (apart_rest b x xs zb) c.3 in
-      (c.0, c.1, cut.other-back x nk nb ∙ c.2, subst (λ n. Linked ms C x n xs) (sym (cut.other x nk na)) r)
+      (c.0, c.1, cut.other_back x nk nb ∙ c.2, subst (λ n. Linked ms C x n xs) (sym (cut.other x nk na)) r)
 
   -- the part behind k, now behind a
   cut_after : (ks : List ℕ) → count k ks ≡ 0 → count a ks ≡ 0 → Once ks
@@ -164,7 +164,7 @@ module _ (ls ms : List FreeListEntry) (C : ℕ) (small : C ≤ 65535) (k a b : �
       ∙ sym (cond-false (eqb (next_at ls x) k) b (next_at ls x) (ne_eqb (next_at ls x) k q.0)))
       (linked_before ls C k x (next_at ls x) xs c.3 l) in
       let t : Linked ms C x (next_at ms x) (without k xs) = subst (λ n. Linked ms C x n (without k xs)) (sym n) r in
-      rw (w, d) (c.0, c.1, cut.other-back x ex xb ∙ c.2, t)
+      rw (w, d) (c.0, c.1, cut.other_back x ex xb ∙ c.2, t)
 
   -- the whole list
   cut_linked : a ≡ previous_at ls k → b ≡ next_at ls k → (p h : ℕ) (ks : List ℕ) → 0 < count k ks → Once ks

@@ -7,12 +7,12 @@ pub loop-init : goal.loop-init
 loop-init g c =
     (walk_starts (g.X.Row.cells c.args.index.now) (g.L.Row.cells c.args.links.now) c.args.capacity c.args.keys c.args.head, (refl, refl, refl), (refl, refl, refl))
 
-pub returns-in-default : goal.returns-in-default
-returns-in-default g c =
+pub returns-in_default : goal.returns-in_default
+returns-in_default g c =
     let xs = g.X.Row.cells c.args.index.now in
     let ls = g.L.Row.cells c.args.links.now in
     let inv = c.loop.invariant in
-    let next = c.in-default.ensures in
+    let next = c.in_default.ensures in
     record {
       value =
           walk_tells xs ls c.args.capacity c.args.keys c.args.head false

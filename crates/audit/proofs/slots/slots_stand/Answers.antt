@@ -4,10 +4,10 @@ use Rattle.audit.proofs.Audits.{shared_from, shared_keys, shared_queue}
 use Rattle.audit.proofs.Calls.{when_like}
 use Rattle.audit.proofs.slots.slots_stand.Goals as goal
 
-pub returns-then-not-mark-slots : goal.returns-then-not-mark-slots
-returns-then-not-mark-slots g c =
+pub returns-then-not-mark_slots : goal.returns-then-not-mark_slots
+returns-then-not-mark_slots g c =
     let q = queue_of c.args.registers (g.Q.Row.cells c.args.slots.now) in
-    let marks = c.if-not-mark-slots.ensures in
+    let marks = c.if-not-mark_slots.ensures in
     record {
       value = λ h.
           marks.value
@@ -20,13 +20,13 @@ pub returns : goal.returns
 returns g c =
     let xs = g.X.Row.cells c.args.index.now in
     let q = queue_of c.args.registers (g.Q.Row.cells c.args.slots.now) in
-    let keys = c.if-not-mark-slots.ensures in
+    let keys = c.if-not-mark_slots.ensures in
     record {
       value =
-          when_like c.mark-slots-2.result
-          (shared_from xs q c.args.registers.len c.requires.small c.requires.within c.requires.backed c.args.marks.now c.requires.clear c.mark-slots.new.marks c.mark-slots-2.new.marks keys.value)
-          (λ none h. none (shared_queue xs q c.args.registers.len c.requires.small c.requires.within c.requires.backed c.args.marks.now c.requires.clear c.mark-slots.new.marks keys.value h))
-          c.mark-slots-2.ensures.value;
+          when_like c.mark_slots-2.result
+          (shared_from xs q c.args.registers.len c.requires.small c.requires.within c.requires.backed c.args.marks.now c.requires.clear c.mark_slots.new.marks c.mark_slots-2.new.marks keys.value)
+          (λ none h. none (shared_queue xs q c.args.registers.len c.requires.small c.requires.within c.requires.backed c.args.marks.now c.requires.clear c.mark_slots.new.marks keys.value h))
+          c.mark_slots-2.ensures.value;
       index = keys.kept;
-      slots = c.mark-slots-2.ensures.kept;
+      slots = c.mark_slots-2.ensures.kept;
     }

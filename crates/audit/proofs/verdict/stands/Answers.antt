@@ -5,9 +5,9 @@ use Rattle.audit.proofs.Audits.{stands_tells, stands_sized, stands_listed}
 use Rattle.audit.proofs.Calls.{moved}
 use Rattle.audit.proofs.verdict.stands.Goals as goal
 
-pub returns-then-not-sizes-stand : goal.returns-then-not-sizes-stand
-returns-then-not-sizes-stand g c =
-    let sizes = c.if-not-sizes-stand.ensures in
+pub returns-then-not-sizes_stand : goal.returns-then-not-sizes_stand
+returns-then-not-sizes_stand g c =
+    let sizes = c.if-not-sizes_stand.ensures in
     record {
       value = λ h. sizes.value (stands_sized _ h);
       index = sizes.index;
@@ -16,11 +16,11 @@ returns-then-not-sizes-stand g c =
       slots = sizes.slots;
     }
 
-pub returns-then-not-free-list-stands : goal.returns-then-not-free-list-stands
-returns-then-not-free-list-stands g c =
+pub returns-then-not-free_list_stands : goal.returns-then-not-free_list_stands
+returns-then-not-free_list_stands g c =
     let r = c.args.registers in
-    let sizes = c.if-not-sizes-stand.ensures in
-    let free = c.if-not-free-list-stands.ensures in
+    let sizes = c.if-not-sizes_stand.ensures in
+    let free = c.if-not-free_list_stands.ensures in
     record {
       value = λ h.
           moved (λ xs ls. Listed xs ls r.capacity r.head r.waiting → ⊥) sizes.index.0 sizes.links.0 free.value (stands_listed _ h);
@@ -37,16 +37,16 @@ returns g c =
     let ls = g.L.Row.cells c.args.links.now in
     let vs = g.D.Row.cells c.args.values.now in
     let qs = g.Q.Row.cells c.args.slots.now in
-    let sizes = c.if-not-sizes-stand.ensures in
-    let free = c.if-not-free-list-stands.ensures in
-    let holding = c.if-not-holding-keys-are-loose.ensures in
-    let slots = c.slots-stand.ensures in
+    let sizes = c.if-not-sizes_stand.ensures in
+    let free = c.if-not-free_list_stands.ensures in
+    let holding = c.if-not-holding_keys_are_loose.ensures in
+    let slots = c.slots_stand.ensures in
     record {
       value =
-          stands_tells (layout_of r xs ls vs qs) c.slots-stand.result sizes.value
+          stands_tells (layout_of r xs ls vs qs) c.slots_stand.result sizes.value
           (moved (λ ys ms. Listed ys ms r.capacity r.head r.waiting) sizes.index.0 sizes.links.0 free.value)
           (moved (λ ys ms. Loose ys ms r.capacity) (free.index.0 ∙ sizes.index.0) (free.links.0 ∙ sizes.links.0) holding.value)
-          (moved (λ ys rs. MatchBool c.slots-stand.result (Shared ys (queue_of r rs) r.len) (Shared ys (queue_of r rs) r.len → ⊥))
+          (moved (λ ys rs. MatchBool c.slots_stand.result (Shared ys (queue_of r rs) r.len) (Shared ys (queue_of r rs) r.len → ⊥))
           (holding.index.0 ∙ free.index.0 ∙ sizes.index.0) sizes.slots.0 slots.value);
       index = search rules;
       links = search rules;

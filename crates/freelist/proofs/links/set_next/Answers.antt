@@ -16,10 +16,10 @@ returns-in-Ok g c =
       beside = c.write.ensures.beside ∙ c.in-Ok.ensures.beside;
     }
 
-pub returns-in-default : goal.returns-in-default
-returns-in-default g c =
+pub returns-in_default : goal.returns-in_default
+returns-in_default g c =
     let ls = g.L.Row.cells c.args.links.now in
     record {
-      after = c.in-default.ensures.same ∙ sym (with_next_past ls c.args.key c.args.next (read_refused_past ls c.args.key c.in-default.field-0 c.in-default.ensures.value));
-      beside = c.in-default.ensures.beside;
+      after = c.in_default.ensures.same ∙ sym (with_next_past ls c.args.key c.args.next (read_refused_past ls c.args.key c.in_default.field-0 c.in_default.ensures.value));
+      beside = c.in_default.ensures.beside;
     }

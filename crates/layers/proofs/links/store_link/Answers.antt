@@ -16,7 +16,7 @@ returns c =
     let most = c.args.most in
     let old = c.new-links.result.bytes in
     let new = c.write-answer.new.self.bytes in
-    let back = sym (ap (λ s. s.slice) (c.into-row-2.ensures.row ∙ ap (λ w. w.row) c.into-row.ensures.row)) in
+    let back = sym (ap (λ s. s.slice) (c.into_row-2.ensures.row ∙ ap (λ w. w.row) c.into_row.ensures.row)) in
     -- what went in
     let old-bytes : old.row.slice.now ≡ c.args.bytes.now = ap (λ w. w.row.slice.now) c.new-links.ensures.row ∙ ap (λ s. s.slice.now) c.new-row.ensures.row ∙ c.new.ensures.cells in
     let old-name : old.row.slice.ghost_name ≡ c.args.bytes.ghost_name = ap (λ w. w.row.slice.ghost_name) c.new-links.ensures.row ∙ ap (λ s. s.slice.ghost_name) c.new-row.ensures.row ∙ c.new.ensures.memory in
@@ -26,10 +26,10 @@ returns c =
     let kept = c.write-answer.ensures.beside in
     let new-from : new.from ≡ from = ap (λ b. b.0.1) kept ∙ old-from in
     let new-most : new.most ≡ most = ap (λ b. b.0.2) kept ∙ old-most in
-    let new-bytes : c.into-slice.result.now ≡ new.row.slice.now = c.into-slice.ensures.cells ∙ sym (ap (λ x. x.now) back) in
-    let new-name : c.into-slice.result.ghost_name ≡ new.row.slice.ghost_name = c.into-slice.ensures.memory ∙ sym (ap (λ x. x.ghost_name) back) in
+    let new-bytes : c.into_slice.result.now ≡ new.row.slice.now = c.into_slice.ensures.cells ∙ sym (ap (λ x. x.now) back) in
+    let new-name : c.into_slice.result.ghost_name ≡ new.row.slice.ghost_name = c.into_slice.ensures.memory ∙ sym (ap (λ x. x.ghost_name) back) in
     let old-window : window old.from old.most old.row.slice.now ≡ window from most c.args.bytes.now = cc in
-    let new-window : window from most c.into-slice.result.now ≡ window new.from new.most new.row.slice.now = cc in
+    let new-window : window from most c.into_slice.result.now ≡ window new.from new.most new.row.slice.now = cc in
     record {
       value = c.write-answer.ensures.value ∙ ap (λ xs. write_at (packed 8 link_item xs) c.args.place) old-window;
       after = ap (packed 8 link_item) new-window ∙ c.write-answer.ensures.after ∙ ap (λ xs. set (packed 8 link_item xs) c.args.place c.args.entry) old-window;

@@ -4,5 +4,5 @@ use Rattle.text.proofs.Ends.{pushed_when_made}
 
 pub returns : goal.returns
 returns c =
-    pushed_when_made c.push-str.result (string_bytes c.args.err.now) _ _ (string_bytes c.push-str.new.self)
-    (c.as-str.ensures.value ∙ c.in-ok-said.ensures.ok) c.push-str.ensures.bytes
+    pushed_when_made c.push_str.result (string_bytes c.args.err.now) _ _ (string_bytes c.push_str.new.self)
+    (c.as_str.ensures.value ∙ c.in_ok-said.ensures.ok) c.push_str.ensures.bytes

@@ -9,8 +9,8 @@ use Rattle.recents.specs.Recent.{complaint}
 use Rattle.recents.proofs.notes.note.Goals as goal
 
 -- a line that is no number leaves the queue as it is
-pub returns-in-ok-complain : goal.returns-in-ok-complain
-returns-in-ok-complain g c =
+pub returns-in_ok-complain-in-None : goal.returns-in_ok-complain-in-None
+returns-in_ok-complain-in-None g c =
     let q = queue g.R.Row.cells c.args.queue.now in
     let sized = length_contents q c.args.queue.now.position.within c.requires in
     let none = c.in-None.ensures in
@@ -19,6 +19,6 @@ returns-in-ok-complain g c =
       capacity = refl;
       held = sym (ap (λ o. latest q.capacity (contents q ++ option_to_list o)) (sym none) ∙ ap (latest q.capacity) (append-nil (contents q)) ∙ latest_all q.capacity (contents q) (omega arith));
       err =
-          c.in-ok-complain.ensures
+          c.in_ok-complain-in-None.ensures
           ∙ ap (λ o. string_bytes c.args.err.now ++ cond (is_some o) [] (complaint c.args.place)) none;
     }

@@ -19,8 +19,8 @@ loop-line-init g c =
       ap (λ text. string_bytes c.args.err.now ++ complaints 1 (lines text)) c.new-reader.ensures,
     )
 
-pub overflow-add-place : goal.overflow-add-place
-overflow-add-place g c = omega (arith, ltb-true 0 (length c.loop-line.reader.rest.now) (sym c.in-Some.ensures.test))
+pub overflow_add-place : goal.overflow_add-place
+overflow_add-place g c = omega (arith, ltb-true 0 (length c.loop-line.reader.rest.now) (sym c.in-Some.ensures.test))
 
 pub note-requires : goal.note-requires
 note-requires g c = c.loop-line.invariant.0
@@ -33,9 +33,9 @@ loop-line-preserved g c =
     let q = queue g.R.Row.cells c.loop-line.queue in
     let after = queue g.R.Row.cells c.note.new.queue in
     let line = c.in-Some.line.now in
-    let rest = lines c.next-line.new.self.rest.now in
+    let rest = lines c.next_line.new.self.rest.now in
     let read = c.in-Some.ensures.lines in
-    let noted = c.in-ok-note.ensures in
+    let noted = c.in_ok-note.ensures in
     let some = ltb-true 0 (length c.loop-line.reader.rest.now) (sym c.in-Some.ensures.test) in (
       noted.backed,
       noted.capacity ∙ c.loop-line.invariant.1,
@@ -52,7 +52,7 @@ loop-line-preserved g c =
 pub returns : goal.returns
 returns g c =
     let q = queue g.R.Row.cells c.loop-line.queue in
-    let rest = no_lines c.loop-line.reader.rest.now c.in-default.ensures.test in
+    let rest = no_lines c.loop-line.reader.rest.now c.in_default.ensures.test in
     let sized = length_contents q c.loop-line.queue.position.within c.loop-line.invariant.0 in
     record {
       backed = c.loop-line.invariant.0;

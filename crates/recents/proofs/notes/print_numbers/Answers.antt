@@ -9,8 +9,8 @@ use Rattle.recents.proofs.notes.print_numbers.Goals as goal
 pub loop-n-init : goal.loop-n-init
 loop-n-init g c = (c.requires, refl)
 
-pub take-oldest-requires : goal.take-oldest-requires
-take-oldest-requires g c = c.loop-n.invariant.0
+pub take_oldest-requires : goal.take_oldest-requires
+take_oldest-requires g c = c.loop-n.invariant.0
 
 pub loop-n-smaller : goal.loop-n-smaller
 loop-n-smaller g c =
@@ -21,11 +21,11 @@ loop-n-smaller g c =
 pub loop-n-preserved : goal.loop-n-preserved
 loop-n-preserved g c =
     let old = contents (queue g.R.Row.cells c.loop-n.queue) in
-    let new = contents (queue g.R.Row.cells c.take-oldest.new.queue) in
+    let new = contents (queue g.R.Row.cells c.take_oldest.new.queue) in
     let n = c.in-Some.n in
     let out = string_bytes c.loop-n.out in (
       c.in-Some.ensures.backed,
-      ap (λ xs. xs ++ flat_map number_line new) c.in-ok-print-number.ensures
+      ap (λ xs. xs ++ flat_map number_line new) c.in_ok-print_number.ensures
           ∙ append_assoc out (number_line n) (flat_map number_line new)
           ∙ ap (λ xs. out ++ (number_line n ++ flat_map number_line xs)) c.in-Some.ensures.held
           ∙ ap (λ xs. out ++ xs) (sym (first_out number_line old n (sym c.in-Some.ensures.value)))
@@ -36,4 +36,4 @@ pub returns : goal.returns
 returns g c =
     let old = contents (queue g.R.Row.cells c.loop-n.queue) in
     let out = string_bytes c.loop-n.out in
-    sym (ap (λ xs. out ++ flat_map number_line xs) (none_left old (sym c.in-default.ensures.value)) ∙ append-nil out) ∙ c.loop-n.invariant.1
+    sym (ap (λ xs. out ++ flat_map number_line xs) (none_left old (sym c.in_default.ensures.value)) ∙ append-nil out) ∙ c.loop-n.invariant.1

@@ -30,9 +30,9 @@ returns-then-digits-eq0 c =
     let line = c.args.line.now in
     let end = c.loop-i.end in
     let inv = c.loop-i.invariant in
-    let found = c.leading-number-number.result in
+    let found = c.leading_number-number.result in
     let few : length inv.0 < takes c.args.kind = omega (arith, inv.2) in
-    let leads : Leads (drop (end + 1) line) found.0 found.1 = rw (take_rest line (end + 1)) at c.leading-number-number.ensures in
+    let leads : Leads (drop (end + 1) line) found.0 found.1 = rw (take_rest line (end + 1)) at c.leading_number-number.ensures in
     stops_blank line c.args.kind c.requires.letter end inv.0 inv.1 (omega (arith, inv.1.within)) c.if-line-end-ne-BLANK.false found.0 few
     (rw c.if-digits-eq0.true at leads)
 
@@ -42,10 +42,10 @@ loop-i-preserved c =
     let line = c.args.line.now in
     let end = c.loop-i.end in
     let inv = c.loop-i.invariant in
-    let found = c.leading-number-number.result in
+    let found = c.leading_number-number.result in
     let word = take found.1 (drop (end + 1) line) in
     let room : c.loop-i.i < length c.loop-i.numbers = omega (arith, inv.4, few_numbers c.args.kind) in
-    let leads : Leads (drop (end + 1) line) found.0 found.1 = rw (take_rest line (end + 1)) at c.leading-number-number.ensures in (
+    let leads : Leads (drop (end + 1) line) found.0 found.1 = rw (take_rest line (end + 1)) at c.leading_number-number.ensures in (
       inv.0 ++ (word ∷ []),
       walked_number line c.args.kind c.requires.letter end inv.0 inv.1 (omega (arith, inv.1.within)) c.if-line-end-ne-BLANK.false found.0 found.1 leads (omega arith),
       length_push inv.0 word ∙ ap (λ n. n + 1) inv.2,

@@ -21,9 +21,9 @@ returns-in-None c =
     record { value = value; legal = scanned_legal line (Err 0) value }
 
 -- the numbers are not what the command takes
-pub returns-in-err-numbers : goal.returns-in-err-numbers
-returns-in-err-numbers c =
+pub returns-in_err-numbers-in-Some : goal.returns-in_err-numbers-in-Some
+returns-in_err-numbers-in-Some c =
     let line = c.args.line.now in
     let stop = err_from_is_err_and c.from-residual.result c.from-residual.ensures.1 in
-    let value = stop.1 ∙ ap Err stop.2 ∙ sym c.in-err-numbers.ensures in
+    let value = stop.1 ∙ ap Err stop.2 ∙ sym c.in_err-numbers-in-Some.ensures in
     record { value = value; legal = scanned_legal line c.from-residual.result value }
