@@ -24,6 +24,6 @@ returns-in-None c =
 pub returns-in_err-numbers-in-Some : goal.returns-in_err-numbers-in-Some
 returns-in_err-numbers-in-Some c =
     let line = c.args.line.now in
-    let stop = err_from_is_err_and c.from-residual.result c.from-residual.ensures.1 in
+    let stop = err_from_is_err_and c.from_residual.result c.from_residual.ensures.1 in
     let value = stop.1 ∙ ap Err stop.2 ∙ sym c.in_err-numbers-in-Some.ensures in
-    record { value = value; legal = scanned_legal line c.from-residual.result value }
+    record { value = value; legal = scanned_legal line c.from_residual.result value }
