@@ -6,7 +6,7 @@ use Rattle.cells.proofs.plan.Plan.init.Goals as goal
 
 pub returns : goal.returns
 returns g c =
-    let made = c.initialize-data-structures.ensures in
+    let made = c.initialize_data_structures.ensures in
     record {
       cells = made.cells;
       means = fresh_least c.args.self.capacity _ _ _ _ _ made.cells;

@@ -5,18 +5,18 @@ use Rattle.cells.proofs.plan.Plan.initialize_data_structures.Goals as goal
 
 pub returns : goal.returns
 returns g c =
-    let over = c.capacity-over-capacity.ensures in
-    let made = c.with-capacity-queue.ensures.state in
+    let over = c.capacity_over-capacity.ensures in
+    let made = c.with_capacity-queue.ensures.state in
     let sized = ap (λ q. q.capacity) made in
     let long = ap length over.slots.0 in
     record {
       cells =
-          fresh_laid c.capacity-over-capacity.result _ c.first-key-head.result _ _ _ _ _ _ _ _ _ _ _ _ _
-          over.value over.index.0 c.clear-index.ensures.after over.links.0 c.link-all.ensures.after over.values.0 c.first-key-head.ensures
-          (omega (arith, over.value)) (ap (λ q. q.cells) made) over.slots.0 c.queue-all.ensures.after;
+          fresh_laid c.capacity_over-capacity.result _ c.first_key-head.result _ _ _ _ _ _ _ _ _ _ _ _ _
+          over.value over.index.0 c.clear_index.ensures.after over.links.0 c.link_all.ensures.after over.values.0 c.first_key-head.ensures
+          (omega (arith, over.value)) (ap (λ q. q.cells) made) over.slots.0 c.queue_all.ensures.after;
       unwritten = over.values.1.1;
       outside = (
-        c.clear-index.ensures.beside ∙ over.index.1.0,
-        (c.link-all.ensures.beside ∙ over.links.1.0, (over.values.1.0, c.queue-all.ensures.beside ∙ c.with-capacity-queue.ensures.beside ∙ over.slots.1.0)),
+        c.clear_index.ensures.beside ∙ over.index.1.0,
+        (c.link_all.ensures.beside ∙ over.links.1.0, (over.values.1.0, c.queue_all.ensures.beside ∙ c.with_capacity-queue.ensures.beside ∙ over.slots.1.0)),
       );
     }

@@ -6,12 +6,12 @@ use Rattle.cells.proofs.steps.MetaSlotMapSteps.store_value.Goals as goal
 pub returns : goal.returns
 returns g c =
     let l = laid g.X.Row.cells g.L.Row.cells g.D.Row.cells g.Q.Row.cells c.args.self.now in
-    let l₁ = laid g.X.Row.cells g.L.Row.cells g.D.Row.cells g.Q.Row.cells c.waiting-slot.new.self in
+    let l₁ = laid g.X.Row.cells g.L.Row.cells g.D.Row.cells g.Q.Row.cells c.waiting_slot.new.self in
     let l₂ = laid g.X.Row.cells g.L.Row.cells g.D.Row.cells g.Q.Row.cells c.overwrite.new.self in
     let made =
-    store_steps l l₁ l₂ c.args.key c.in-ok-slot.slot c.args.value _ _ c.pop.result
-    (omega (arith, c.capacity.ensures)) c.in-ok-slot.ensures.value c.in-ok-slot.ensures.same
-    c.in-ok-overwrite.ensures.value c.in-ok-overwrite.ensures.after
+    store_steps l l₁ l₂ c.args.key c.in_ok-slot.slot c.args.value _ _ c.pop.result
+    (omega (arith, c.capacity.ensures)) c.in_ok-slot.ensures.value c.in_ok-slot.ensures.same
+    c.in_ok-overwrite.ensures.value c.in_ok-overwrite.ensures.after
     c.write.ensures.after c.pop.ensures.value c.pop.ensures.after in
     record {
       value = made.0;
