@@ -5,13 +5,13 @@ use Rattle.calls.proofs.calls.fill.Goals as goal
 pub returns : goal.returns
 returns g c =
     let filled =
-    fill_steps _ _ _ _ c.args.key c.args.value c.in-ok-entry.entry
-    c.in-ok-entry.ensures.value c.in-ok-entry.ensures.same
-    c.in-ok-store-value.ensures.value c.in-ok-store-value.ensures.after
-    c.claim-index.ensures.after in
+    fill_steps _ _ _ _ c.args.key c.args.value c.in_ok-entry.entry
+    c.in_ok-entry.ensures.value c.in_ok-entry.ensures.same
+    c.in_ok-store_value.ensures.value c.in_ok-store_value.ensures.after
+    c.claim_index.ensures.after in
     record {
       value = filled.0;
       after = filled.1;
       kept = λ no. let z : ◌≡◌ {A = ℕ} 0 1 = cc in absurd (omega arith);
-      beside = c.claim-index.ensures.beside ∙ c.in-ok-store-value.ensures.beside ∙ c.in-ok-entry.ensures.beside;
+      beside = c.claim_index.ensures.beside ∙ c.in_ok-store_value.ensures.beside ∙ c.in_ok-entry.ensures.beside;
     }

@@ -3,7 +3,7 @@ use Rattle.slotmap.proofs.slotmap.AnySlotMap.audit.Goals as goal
 
 pub returns : goal.returns
 returns g c =
-    let done = c.audit-impl.ensures in
+    let done = c.audit_impl.ensures in
     record {
       verdict = done.verdict;
       same = done.same;

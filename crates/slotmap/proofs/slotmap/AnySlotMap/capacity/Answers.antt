@@ -2,4 +2,4 @@ use Rattle.std.proofs.Common.{sym, ap, ◌∙◌}
 use Rattle.slotmap.proofs.slotmap.AnySlotMap.capacity.Goals as goal
 
 pub returns : goal.returns
-returns g c = record { value = c.capacity-impl.ensures; means = λ t h. c.capacity-impl.ensures ∙ sym h.size }
+returns g c = record { value = c.capacity_impl.ensures; means = λ t h. c.capacity_impl.ensures ∙ sym h.size }

@@ -4,7 +4,7 @@ use Rattle.slotmap.proofs.slotmap.AnySlotMap.insert.Goals as goal
 
 pub returns : goal.returns
 returns g c =
-    let done = c.insert-impl.ensures in
+    let done = c.insert_impl.ensures in
     record {
       value = done.value;
       after = done.after;

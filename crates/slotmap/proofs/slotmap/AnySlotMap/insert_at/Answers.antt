@@ -4,7 +4,7 @@ use Rattle.slotmap.proofs.slotmap.AnySlotMap.insert_at.Goals as goal
 
 pub returns : goal.returns
 returns g c =
-    let done = c.insert-at-impl.ensures in
+    let done = c.insert_at_impl.ensures in
     record {
       value = done.value;
       after = done.after;

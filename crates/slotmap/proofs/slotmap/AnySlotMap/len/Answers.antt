@@ -3,4 +3,4 @@ use Rattle.model.proofs.Readers.{len_answers}
 use Rattle.slotmap.proofs.slotmap.AnySlotMap.len.Goals as goal
 
 pub returns : goal.returns
-returns g c = record { value = c.len-impl.ensures; means = λ t h. c.len-impl.ensures ∙ len_answers (g.T.Steps.layout c.args.self.now) t h }
+returns g c = record { value = c.len_impl.ensures; means = λ t h. c.len_impl.ensures ∙ len_answers (g.T.Steps.layout c.args.self.now) t h }

@@ -13,7 +13,7 @@ returns-in-Some g c =
     let l = g.T.Steps.layout c.args.self.now in
     let inv = c.loop-key.invariant in
     let key = c.loop-key.key in
-    let read = c.get-impl.ensures in
+    let read = c.get_impl.ensures in
     let held : result_unwrap_or (get_cells l key) None ≡ Some c.in-Some.value
     = sym (c.in-Some.ensures ∙ ap (λ r. result_unwrap_or r None) (read.value ∙ ap (λ n. get_cells n key) inv.0)) in
     let value = sym (inv.3 ∙ step_found (λ k. result_unwrap_or (get_cells l k) None) (capacity l) key c.in-Some.value (omega (arith, c.capacity-key-end.ensures.value)) held) in
@@ -31,7 +31,7 @@ loop-key-preserved g c =
     let l = g.T.Steps.layout c.args.self.now in
     let inv = c.loop-key.invariant in
     let key = c.loop-key.key in
-    let read = c.get-impl.ensures in
+    let read = c.get_impl.ensures in
     let held : result_unwrap_or (get_cells l key) None ≡ None
     = sym (c.in-None.ensures ∙ ap (λ r. result_unwrap_or r None) (read.value ∙ ap (λ n. get_cells n key) inv.0)) in (
       read.same ∙ inv.0,

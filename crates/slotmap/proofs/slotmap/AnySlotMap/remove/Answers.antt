@@ -4,7 +4,7 @@ use Rattle.slotmap.proofs.slotmap.AnySlotMap.remove.Goals as goal
 
 pub returns : goal.returns
 returns g c =
-    let done = c.remove-impl.ensures in
+    let done = c.remove_impl.ensures in
     record {
       value = done.value;
       after = done.after;

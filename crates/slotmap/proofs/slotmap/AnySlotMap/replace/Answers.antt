@@ -4,7 +4,7 @@ use Rattle.slotmap.proofs.slotmap.AnySlotMap.replace.Goals as goal
 
 pub returns : goal.returns
 returns g c =
-    let done = c.replace-impl.ensures in
+    let done = c.replace_impl.ensures in
     record {
       value = done.value;
       after = done.after;
