@@ -9,7 +9,7 @@ returns-in-Insert g c =
     record {
       value = search rules;
       after = search rules;
-      kept = λ idle. c.insert.ensures.kept (idle_insert c.in-Insert.value c.answer-key.result c.insert.result c.answer-key.ensures (subst (λ q. Idle (record { call = q; answer = c.answer-key.result })) c.in-Insert.is idle));
+      kept = λ idle. c.insert.ensures.kept (idle_insert c.in-Insert.value c.answer_key.result c.insert.result c.answer_key.ensures (subst (λ q. Idle (record { call = q; answer = c.answer_key.result })) c.in-Insert.is idle));
       beside = search rules;
     }
 
@@ -18,7 +18,7 @@ returns-in-InsertAt g c =
     record {
       value = search rules;
       after = search rules;
-      kept = λ idle. c.insert-at.ensures.kept (idle_insert_at c.in-InsertAt.key c.in-InsertAt.value c.answer-done.result c.insert-at.result c.answer-done.ensures (subst (λ q. Idle (record { call = q; answer = c.answer-done.result })) c.in-InsertAt.is idle));
+      kept = λ idle. c.insert_at.ensures.kept (idle_insert_at c.in-InsertAt.key c.in-InsertAt.value c.answer_done.result c.insert_at.result c.answer_done.ensures (subst (λ q. Idle (record { call = q; answer = c.answer_done.result })) c.in-InsertAt.is idle));
       beside = search rules;
     }
 
@@ -27,7 +27,7 @@ returns-in-Remove g c =
     record {
       value = search rules;
       after = search rules;
-      kept = λ idle. c.remove.ensures.kept (idle_remove c.in-Remove.key c.answer-value.result c.remove.result c.answer-value.ensures (subst (λ q. Idle (record { call = q; answer = c.answer-value.result })) c.in-Remove.is idle));
+      kept = λ idle. c.remove.ensures.kept (idle_remove c.in-Remove.key c.answer_value.result c.remove.result c.answer_value.ensures (subst (λ q. Idle (record { call = q; answer = c.answer_value.result })) c.in-Remove.is idle));
       beside = search rules;
     }
 
@@ -36,6 +36,6 @@ returns-in-Replace g c =
     record {
       value = search rules;
       after = search rules;
-      kept = λ idle. c.replace.ensures.kept (idle_replace c.in-Replace.key c.in-Replace.value c.answer-value-in-Replace.result c.replace.result c.answer-value-in-Replace.ensures (subst (λ q. Idle (record { call = q; answer = c.answer-value-in-Replace.result })) c.in-Replace.is idle));
+      kept = λ idle. c.replace.ensures.kept (idle_replace c.in-Replace.key c.in-Replace.value c.answer_value-in-Replace.result c.replace.result c.answer_value-in-Replace.ensures (subst (λ q. Idle (record { call = q; answer = c.answer_value-in-Replace.result })) c.in-Replace.is idle));
       beside = search rules;
     }

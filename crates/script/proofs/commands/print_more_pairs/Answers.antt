@@ -26,12 +26,12 @@ loop-key-preserved g c =
       λ t h.
           pairs_step t c.loop-key.cursor.key _ (c.in-Some.key, c.in-Some.value) (string_bytes c.loop-key.out) _ _ _
           (step.means t (subst (λ n. Means n t) (sym inv.0) h)).0 step.after
-          c.in-ok-push-str.ensures.bytes c.in-ok-print-pair.ensures (inv.1 t h),
+          c.in_ok-push_str.ensures.bytes c.in_ok-print_pair.ensures (inv.1 t h),
     )
 
 pub returns : goal.returns
 returns g c t h =
-    let step = c.in-default.ensures in
+    let step = c.in_default.ensures in
     let inv = c.loop-key.invariant in
     let m = subst (λ n. Means n t) (sym inv.0) h in (
       pairs_end t c.loop-key.cursor.key _ _ (step.means t m).0 (inv.1 t h),

@@ -10,12 +10,12 @@ pub returns : goal.returns
 returns c t h =
     let out = string_bytes c.args.out.now in
     let line = c.args.line.now in
-    let read = c.in-ok-carry-out-read.ensures t h in
-    IfOk-weaker c.push-str.result _ _
+    let read = c.in_ok-carry_out_read.ensures t h in
+    IfOk-weaker c.push_str.result _ _
     (λ u done. (
       done
           ∙ ap (λ q. q ++ (10 ∷ [])) (read.0 ∙ ap (λ s. out ++ line_said t s) c.scan.ensures.value)
           ∙ append_assoc out (line_said t (scanned line)) (10 ∷ []),
-      subst (λ s. Means (keys_layout c.carry-out-read.new.table) (line_after t s)) c.scan.ensures.value read.1,
+      subst (λ s. Means (keys_layout c.carry_out_read.new.table) (line_after t s)) c.scan.ensures.value read.1,
     ))
-    (pushed_when_made c.push-str.result (string_bytes c.carry-out-read.new.out) _ (10 ∷ []) _ refl c.push-str.ensures.bytes)
+    (pushed_when_made c.push_str.result (string_bytes c.carry_out_read.new.out) _ (10 ∷ []) _ refl c.push_str.ensures.bytes)

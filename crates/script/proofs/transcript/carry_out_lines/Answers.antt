@@ -16,11 +16,11 @@ pub loop-line-preserved : goal.loop-line-preserved
 loop-line-preserved c t₀ m =
     let i = c.loop-line.invariant t₀ m in
     let line = c.in-Some.line.now in
-    let done = c.in-ok-carry-out-line.ensures i.0 i.1 in
+    let done = c.in_ok-carry_out_line.ensures i.0 i.1 in
     let t = line_after i.0 (scanned line) in
     let said = line_said i.0 (scanned line) ++ (10 ∷ []) in
     let out = string_bytes c.loop-line.out in
-    let rest = lines c.next-line.new.self.rest.now in (
+    let rest = lines c.next_line.new.self.rest.now in (
       t,
       done.1,
       ap (λ q. q ++ printed t rest) done.0
@@ -33,5 +33,5 @@ pub returns : goal.returns
 returns c t h =
     let i = c.loop-line.invariant t h in
     let out = string_bytes c.loop-line.out in
-    let none = no_lines c.loop-line.reader.rest.now c.in-default.ensures.test in
+    let none = no_lines c.loop-line.reader.rest.now c.in_default.ensures.test in
     sym (append-nil out) ∙ ap (λ ls. out ++ printed i.0 ls) (sym none) ∙ i.2
