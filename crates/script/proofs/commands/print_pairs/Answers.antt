@@ -9,13 +9,13 @@ pub returns-in_ok-print_pair-in-Some : goal.returns-in_ok-print_pair-in-Some
 returns-in_ok-print_pair-in-Some g c t h =
     let step = c.in-Some.ensures in
     let met = step.means t h in
-    IfOk-weaker c.print-more-pairs.result _ _
+    IfOk-weaker c.print_more_pairs.result _ _
     (λ u done. (
       pairs_first t 0 _ (c.in-Some.key, c.in-Some.value) (string_bytes c.args.out.now) _ _
           (met.0 ∙ ap (step_answer t) c.new-cursor.ensures) step.after c.in_ok-print_pair-in-Some.ensures done.0,
       done.1,
     ))
-    (c.print-more-pairs.ensures t met.1)
+    (c.print_more_pairs.ensures t met.1)
 
 pub returns-in-None : goal.returns-in-None
 returns-in-None g c t h =
