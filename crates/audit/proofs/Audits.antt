@@ -11,6 +11,7 @@ use Rattle.model.specs.Sound.{vacant, holds, cell, Sound, Means, Stands}
 use Rattle.model.specs.Tables.{Table}
 use Rattle.model.proofs.Sums.{same_yes, same_no, sum_alike, sum_add, sum_ones, sum_swap, sum_none, sum_once, sum_counts}
 use Rattle.model.proofs.FreeLists.{linked_below}
+use Rattle.model.proofs.Sounds.{means_of}
 use Rattle.model.proofs.Refines.{holds_yes, holds_no, owned_sum, split_sum, shared_out}
 use Rattle.audit.specs.Parts.{Sized, Listed, Loose, bit, given, ring, Apart, Marked, Shared}
 use Rattle.audit.proofs.Calls.{when_like}
@@ -137,8 +138,8 @@ module _ {V : Type 0} (l : Layout V) where
   abbrev table_of : List ℕ → Table V
   table_of ks = record { capacity = capacity l; held = cell l.index l.values; free = ks }
 
-  means_of : (ks : List ℕ) → Sound l ks → Means l (table_of ks)
-  means_of ks h = record { size = refl; sound = h; valued = λ _ _. refl }
+  stored_means : (ks : List ℕ) → Sound l ks → Means l (table_of ks)
+  stored_means ks h = means_of l (table_of ks) refl h (λ _ _. refl)
 
   pub stands_sized : Stands l → Sized l
   stands_sized (ks, h) =
@@ -150,7 +151,7 @@ module _ {V : Type 0} (l : Layout V) where
         backed = h.backed;
         begins = h.begins;
         within = h.within;
-        total = omega (arith, shared_out l (table_of ks) (means_of ks h));
+        total = omega (arith, shared_out l (table_of ks) (stored_means ks h));
       }
 
   pub stands_listed : Stands l → Listed l.index l.links (capacity l) l.head l.slots.len
@@ -166,7 +167,7 @@ module _ {V : Type 0} (l : Layout V) where
             (λ (e : slot_at xs k ≡ nil → ⊥).
             absurd (omega (arith, h.keys k (linked_below l.links C nil l.head ks h.free k some), same_no (slot_at xs k) nil e)))
             (cases_eq (slot_at xs k) nil)),
-        omega (arith, sum_counts C ks (linked_all l.links C nil l.head ks h.free), sum_alike (λ k. count k ks) (vacant xs) C h.keys, split_sum xs C, h.counted, shared_out l (table_of ks) (means_of ks h)),
+        omega (arith, sum_counts C ks (linked_all l.links C nil l.head ks h.free), sum_alike (λ k. count k ks) (vacant xs) C h.keys, split_sum xs C, h.counted, shared_out l (table_of ks) (stored_means ks h)),
       )
 
   stands_shared : Stands l → Shared l.index l.slots l.len

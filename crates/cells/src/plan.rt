@@ -63,8 +63,8 @@ impl Plan {
         ensures values { (D.Row.cells values.new ≡ D.Row.cells values.old) × ((D.Row.outside values.new ≡ D.Row.outside values.old) × (D.Row.stored values.new ≡ D.Row.stored values.old)) }
         ensures slots { (Q.Row.cells slots.new ≡ Q.Row.cells slots.old) × ((Q.Row.outside slots.new ≡ Q.Row.outside slots.old) × (Q.Row.stored slots.new ≡ Q.Row.stored slots.old)) }
     {
-        let most = capacity_over(65535, index, links, values, slots);
-        if self.capacity <= most {
+        let capacity = capacity_over(self.capacity, index, links, values, slots);
+        if self.capacity == capacity {
             Ok(())
         } else {
             Err(Refusal::PlanTooLarge)

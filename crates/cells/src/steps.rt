@@ -69,7 +69,8 @@ pub trait Steps {
         ensures untouched { stored self.new ≡ stored self.old }
         ensures beside { outside self.new ≡ outside self.old };
 
-    // Sees that `key` is vacant and can leave the free list; answers its link.
+    // Sees that `key` is vacant, that not every key holds, and that the key can leave the free list;
+    // answers its link.
     fn check_fill(&mut self, key: SlotMapKey) -> Result<FreeListEntry, Refusal>
         ensures value { result ≡ fillable (layout self.old) key }
         ensures same { layout self.new ≡ layout self.old }
@@ -187,17 +188,19 @@ impl<X: Row<Item = u32>, L: Row<Item = FreeListEntry>, D: Row, Q: Row<Item = u32
     }
 
     fn check_fill(&mut self, key: SlotMapKey) -> Result<FreeListEntry, Refusal> {
-        let capacity = self.data_next_free_index.capacity();
-        let entry = check_claim(&mut self.idx_to_data_free_list, capacity, key)?;
         if self.index_of(key)?.is_some() {
             return Err(Refusal::AuditFailed);
         }
-        Ok(entry)
+        let capacity = self.data_next_free_index.capacity();
+        if self.len >= capacity {
+            return Err(Refusal::AuditFailed);
+        }
+        check_claim(&mut self.idx_to_data_free_list, capacity, key)
     }
 
     fn claim_index(&mut self, key: SlotMapKey, entry: FreeListEntry) {
         unlink(&mut self.idx_to_data_free_list, key, entry);
-        if self.idx_to_data_free_list_head == key {
+        if entry.previous == NONE {
             self.idx_to_data_free_list_head = entry.next;
         }
     }

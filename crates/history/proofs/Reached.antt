@@ -5,6 +5,7 @@ use Rattle.std.proofs.lemmas.Bool.{lt-ltb, cond-true}
 use Rattle.model.specs.Counts.{count}
 use Rattle.model.specs.Layouts.{Layout, capacity, nil, slot_at}
 use Rattle.model.specs.Sound.{Means, Follows}
+use Rattle.model.proofs.Sounds.{sound_of}
 use Rattle.model.specs.Tables.{Table, fresh}
 use Rattle.model.proofs.Refines.{cell_none, cell_some}
 use Rattle.model.proofs.Passes.{value_there}
@@ -75,7 +76,7 @@ reached_from C h l p m =
     record {
       size = sym m.size ∙ told.size;
       answered = p;
-      stands = (t.free, m.sound);
+      stands = (t.free, sound_of l t m);
       means = m;
       holding = nil_vacant C h l t told m;
       held = slot_holds C h l t told m;

@@ -6,8 +6,8 @@ use Rattle.std.specs.Result.{result_and, result_map_both}
 use Rattle.refusal.specs.declared.Refusal.{Refusal}
 use Rattle.rows.specs.declared.cell.FreeListEntry.{FreeListEntry}
 use Rattle.model.specs.Layouts.{Layout, capacity, Legal, SameBeyond, nil, slot_at, link_at, unlinked, with_next, with_previous, oldest_slot, filled, rewritten, overwritten, emptied}
-use Rattle.model.specs.Checks.{then, passes, seen, slot_of, link_of, neighbour, claimable, fillable, store_answer, fill_answer, value_of, vacate_answer, of_slot, from_slot, at_slot, get_cells, insert_cells, insert_at_cells, stored_at, inserted_at, remove_cells, when_given}
-use Rattle.model.proofs.Checked.{then_ok, both_ok, link_ok, claim_ok, claim_beside, neighbour_ok, fillable_claims, fillable_ok, store_ok, slot_ok}
+use Rattle.model.specs.Checks.{then, passes, seen, slot_of, link_of, neighbour, claimable, fillable, waiting, storable, fill_answer, value_of, vacate_answer, of_slot, from_slot, at_slot, get_cells, insert_cells, insert_at_cells, stored_at, inserted_at, remove_cells, when_given}
+use Rattle.model.proofs.Checked.{then_ok, both_ok, link_ok, claim_ok, claim_beside, neighbour_ok, fillable_claims, fillable_stores, fillable_ok, store_ok, slot_ok}
 
 -- a link that is changed is nil's or a key's
 next_beyond : (ls : List FreeListEntry) (C p n : ℕ) → (p ≡ nil) ⊎ (p < C) → drop C (with_next ls p n) ≡ drop C ls
@@ -35,12 +35,12 @@ module _ {V : Type 0} (l : Layout V) where
       let C = capacity l in
       let ls = l.links in
       let e = link_at ls k in
-      let one = both_ok (fillable l k) (store_answer l) u p in
+      let one = both_ok (fillable l k) (then (waiting l.slots) (storable l.values)) u p in
       let link : one.0 ≡ e = fillable_ok l k one.0 one.1 in
       let claims : claimable ls C k ≡ Ok e = fillable_claims l k one.0 one.1 ∙ ap Ok link in
       let b = (link_ok ls C k e (claim_ok ls C k e claims)).0 in
       let beside = claim_beside ls C k e claims in
-      let slot = store_ok l u one.2 in (
+      let slot = store_ok l u (fillable_stores l k one.0 one.1 ∙ one.2) in (
         drop-set-lt C l.index k _ b,
         drop-set-lt C (with_previous (with_next ls e.previous e.next) e.next e.previous) k _ b
             ∙ previous_beyond (with_next ls e.previous e.next) C e.next e.previous beside.1

@@ -75,15 +75,15 @@ module _ {V : Type 0} (l : Layout V) (t : Table V) (h : Means l t) where
 
 -- the free list's first key, as the head has it
 pub head_none : {V : Type 0} (l : Layout V) (t : Table V) → Means l t → l.head ≡ nil → t.free ≡ []
-head_none l t h e = go t.free h.sound.free
+head_none l t h e = go t.free h.free
   where
     go : (ks : List ℕ) → Linked l.links (capacity l) nil l.head ks → ks ≡ []
     go [] c = refl
-    go (x ∷ xs) c = absurd (omega (arith, c.0, c.1, e, h.sound.small))
+    go (x ∷ xs) c = absurd (omega (arith, c.0, c.1, e, h.small))
 
 pub head_some : {V : Type 0} (l : Layout V) (t : Table V) → Means l t → l.head ≢ nil
     → (l.head < capacity l) × (slot_at l.index l.head ≡ nil) × (t.free ≡ l.head ∷ without l.head t.free)
-head_some l t h e = go t.free h.sound.free h.sound.keys
+head_some l t h e = go t.free h.free h.keys
   where
     go : (ks : List ℕ) → Linked l.links (capacity l) nil l.head ks
         → ((k : ℕ) → k < capacity l → count k ks ≡ vacant l.index k)
@@ -139,7 +139,7 @@ module _ {V : Type 0} (l : Layout V) (t : Table V) (h : Means l t) where
       (λ (e : slot_at l.index k ≡ nil → ⊥).
       let answer : insert_at_cells l k ≡ Ok tt
       = ap (λ r. then r (at_slot l k)) (slot_some l t h k b e)
-      ∙ ap passes (lt-ltb (slot_at l.index k) (length l.values) (omega (arith, h.sound.slotted k b e, h.sound.stores))) in
+      ∙ ap passes (lt-ltb (slot_at l.index k) (length l.values) (omega (arith, h.slotted k b e, h.stores))) in
       let cells : inserted_at l k v ≡ overwritten l k v = ap (stored_at l k v) (slot_some l t h k b e) in
       let kept : stored t k v t.free ≡ insert_at_after t k v = ap (stored t k v) (sym (without_none k t.free (holding_loose l t h k b e))) ∙ sym after in (
         answer ∙ sym (inside l t h k _ _ b),

@@ -75,10 +75,15 @@ claim_beside ls C k e p =
 -- a key that can be filled can leave the free list
 pub fillable_claims : {V : Type 0} (l : Layout V) (k : ℕ) (e : FreeListEntry) → fillable l k ≡ Ok e → claimable l.links (capacity l) k ≡ Ok e
 fillable_claims l k e p =
-    let one = then_ok (claimable l.links (capacity l) k) _ e p in
-    let two = both_ok (then (index_of l k) vacant_only) _ e one.2 in
-    let three : one.0 ≡ e = cc two.2 in
-    one.1 ∙ ap Ok three
+    let one = both_ok (then (index_of l k) vacant_only) _ e p in
+    (both_ok (room l) _ e one.2).2
+
+-- and leaves room, so that its value can be stored where the slot that waits longest has a cell for it
+pub fillable_stores : {V : Type 0} (l : Layout V) (k : ℕ) (e : FreeListEntry) → fillable l k ≡ Ok e → store_answer l ≡ then (waiting l.slots) (storable l.values)
+fillable_stores l k e p =
+    let one = both_ok (then (index_of l k) vacant_only) _ e p in
+    let two = both_ok (room l) _ e one.2 in
+    ap (λ r. result_and r (then (waiting l.slots) (storable l.values))) two.1
 
 pub fillable_ok : {V : Type 0} (l : Layout V) (k : ℕ) (e : FreeListEntry) → fillable l k ≡ Ok e → e ≡ link_at l.links k
 fillable_ok l k e p = (link_ok l.links (capacity l) k e (claim_ok l.links (capacity l) k e (fillable_claims l k e p))).2

@@ -10,7 +10,7 @@ use Rattle.rows.specs.declared.cell.FreeListEntry.{FreeListEntry}
 use Rattle.containers.specs.Queues.{QueueState, place_of, popped, oldest_answer}
 use Rattle.model.specs.Layouts.{Layout, capacity, oldest_slot, claimed, given, filled, rewritten, overwritten, emptied_at, emptied}
 use Rattle.model.specs.Checks.{then, passes, bounded, room, fillable, waiting, storable, store_answer, fill_answer, slot_of, value_of, vacate_answer, of_slot, from_slot, get_cells, remove_cells}
-use Rattle.model.proofs.Checked.{then_ok, fillable_ok, waiting_ok, found_ok, slot_ok}
+use Rattle.model.proofs.Checked.{then_ok, fillable_stores, fillable_ok, waiting_ok, found_ok, slot_ok}
 
 -- a slot that waits can be popped
 read_there : {A : Type 0} (o : Option A) (x : A) → ok_or o AuditFailed ≡ Ok x → is_ok (result_map_both Some (λ e. e) (ok_or o NoPlace)) ≡ true
@@ -52,7 +52,10 @@ pub fill_steps : {V : Type 0} (l l₁ l₂ l₃ : Layout V) (k : ℕ) (v : V) (e
     → Ok e ≡ fillable l k → l₁ ≡ l → Ok tt ≡ store_answer l₁ → l₂ ≡ given l₁ k (oldest_slot l₁.slots) v → l₃ ≡ claimed l₂ k e
     → (Ok tt ≡ fill_answer l k) × (l₃ ≡ filled l k v)
 fill_steps l l₁ l₂ l₃ k v e pe p₁ ps p₂ p₃ = (
-  ps ∙ ap store_answer p₁ ∙ ap (λ r. result_and r (store_answer l)) pe,
+  ps
+      ∙ ap store_answer p₁
+      ∙ fillable_stores l k e (sym pe)
+      ∙ ap (λ r. result_and r (then (waiting l.slots) (storable l.values))) pe,
   p₃
       ∙ ap (λ n. claimed n k e) (p₂ ∙ ap (λ n. given n k (oldest_slot n.slots) v) p₁)
       ∙ ap (claimed _ k) (fillable_ok l k e (sym pe)),

@@ -280,14 +280,25 @@ cut_out_cuts ls C small fits k e =
 -- Key k, out of the free list.
 pub linked_out : (ls : List FreeListEntry) (C : ℕ) → C ≤ 65535 → C ≤ length ls → (k h : ℕ) (ks : List ℕ)
     → 0 < count k ks → Once ks → Linked ls C nil h ks
-    → Linked (cut_out ls k (link_at ls k)) C nil (head_without h k (link_at ls k)) (without k ks)
+    → Linked (cut_out ls k (link_at ls k)) C nil (head_without h (link_at ls k)) (without k ks)
 linked_out ls C small fits k h ks l o c =
     let e = link_at ls k in
     let z : count nil ks ≡ 0 =
     ⊎_elim (λ (q : 0 < count nil ks). omega (arith, linked_below ls C nil h ks c nil q)) (λ (q : count nil ks ≤ 0). omega arith)
     (cases_lt 0 (count nil ks)) in
-    cut_linked ls (cut_out ls k e) C small k e.previous e.next (cut_out_cuts ls C small fits k e)
-    refl refl nil h ks l o z c
+    let r = cut_linked ls (cut_out ls k e) C small k e.previous e.next (cut_out_cuts ls C small fits k e)
+    refl refl nil h ks l o z c in
+    let d : head_without h e ≡ cond (eqb h k) e.next h =
+    ⊎_elim
+    (λ (q : (h ≡ k) × (previous_at ls k ≡ nil)).
+    cond-true (eqb e.previous nil) e.next h (eq-eqb e.previous nil q.1)
+    ∙ sym (cond-true (eqb h k) e.next h (eq-eqb h k q.0)))
+    (λ (q : (h ≢ k) × (0 < count (previous_at ls k) ks)).
+    cond-false (eqb e.previous nil) e.next h
+    (ne_eqb e.previous nil (λ n. omega (arith, n, linked_below ls C nil h ks c (previous_at ls k) q.1)))
+    ∙ sym (cond-false (eqb h k) e.next h (ne_eqb h k q.0)))
+    (linked_before ls C k nil h ks c l) in
+    subst (λ n. Linked (cut_out ls k e) C nil n (without k ks)) (sym d) r
 
 pub put_first_length : (ls : List FreeListEntry) (h k : ℕ) → length (put_first ls h k) ≡ length ls
 put_first_length ls h k =

@@ -117,28 +117,25 @@ fresh_means {V} C xs ls vs qs small fx fl fv fq =
     let line : contents q ≡ range_with_len 0 C = slots_up q refl refl behind up in
     record {
       size = refl;
-      sound =
-          record {
-            small = small;
-            indexes = omega (arith, fx, written_length (λ _. nil) C xs);
-            linked = omega (arith, fl, written_length (fresh_link C) C ls);
-            stores = fv;
-            backed = behind;
-            begins = omega arith;
-            within = omega arith;
-            free = linked_up ms C 0 C (omega arith) linked;
-            keys = λ k b. count_counting k 0 C (omega arith) (omega arith) ∙ sym (same_yes (slot_at ys k) nil (empty k b));
-            loose = λ k b e. absurd (e (empty k b));
-            slotted = λ k b e. absurd (e (empty k b));
-            queued = subst (All (λ s. s < C)) (sym line) (all_counting C 0 C (omega arith));
-            shared = λ s b.
-                let none : sum_to (λ k. same s (slot_at ys k)) C ≡ 0 =
-                sum_alike (λ k. same s (slot_at ys k)) (λ _. 0) C
-                (λ k bk. ap (same s) (empty k bk) ∙ same_no s nil (omega arith))
-                ∙ sum_zero C in
-                omega (arith, none, ap (count s) line, count_counting s 0 C (omega arith) (omega arith));
-            counted = sym (sum_alike (holds ys) (λ _. 0) C (λ k bk. holds_no ys k (empty k bk)) ∙ sum_zero C);
-          };
+      small = small;
+      indexes = omega (arith, fx, written_length (λ _. nil) C xs);
+      linked = omega (arith, fl, written_length (fresh_link C) C ls);
+      stores = fv;
+      backed = behind;
+      begins = omega arith;
+      within = omega arith;
+      free = linked_up ms C 0 C (omega arith) linked;
+      keys = λ k b. count_counting k 0 C (omega arith) (omega arith) ∙ sym (same_yes (slot_at ys k) nil (empty k b));
+      loose = λ k b e. absurd (e (empty k b));
+      slotted = λ k b e. absurd (e (empty k b));
+      queued = subst (All (λ s. s < C)) (sym line) (all_counting C 0 C (omega arith));
+      shared = λ s b.
+          let none : sum_to (λ k. same s (slot_at ys k)) C ≡ 0 =
+          sum_alike (λ k. same s (slot_at ys k)) (λ _. 0) C
+          (λ k bk. ap (same s) (empty k bk) ∙ same_no s nil (omega arith))
+          ∙ sum_zero C in
+          omega (arith, none, ap (count s) line, count_counting s 0 C (omega arith) (omega arith));
+      counted = sym (sum_alike (holds ys) (λ _. 0) C (λ k bk. holds_no ys k (empty k bk)) ∙ sum_zero C);
       valued = λ k b. sym (cell_none ys vs k (empty k b));
     }
 

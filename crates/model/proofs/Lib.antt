@@ -1,5 +1,6 @@
 pub mod Sums
 pub mod FreeLists
+pub mod Sounds
 pub mod Refines
 pub mod Checked
 pub mod Fills

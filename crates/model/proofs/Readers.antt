@@ -53,7 +53,7 @@ module _ {V : Type 0} (l : Layout V) (t : Table V) (h : Means l t) where
   pub len_answers : l.len ≡ len_answer t
   len_answers =
       let f : ℕ → ℕ = λ k. cond (options.is_some (t.held k)) 1 0 in
-      h.sound.counted
+      h.counted
       ∙ sum_alike (holds l.index) f (capacity l)
       (λ k b.
       ⊎_elim

@@ -68,9 +68,9 @@ room l = passes (nat_lt l.len (capacity l))
 abbrev pub storable : {V : Type 0} → List V → ℕ → Result (Unit {0}) Refusal
 storable vs s = passes (nat_lt s (length vs))
 
--- the link of a vacant key that can leave the free list
+-- the link of a vacant key that can be filled, but for its slot
 abbrev pub fillable : {V : Type 0} → Layout V → ℕ → Result FreeListEntry Refusal
-fillable l k = then (claimable l.links (capacity l) k) (λ e. result_and (then (index_of l k) vacant_only) (Ok e))
+fillable l k = result_and (then (index_of l k) vacant_only) (result_and (room l) (claimable l.links (capacity l) k))
 
 -- whether a value can be stored: not every key holds, and the slot that waits longest has a cell for it
 abbrev pub store_answer : {V : Type 0} → Layout V → Result (Unit {0}) Refusal
@@ -78,7 +78,7 @@ store_answer l = result_and (room l) (then (waiting l.slots) (storable l.values)
 
 -- whether a vacant key can be filled
 abbrev pub fill_answer : {V : Type 0} → Layout V → ℕ → Result (Unit {0}) Refusal
-fill_answer l k = result_and (fillable l k) (store_answer l)
+fill_answer l k = result_and (fillable l k) (then (waiting l.slots) (storable l.values))
 
 -- the value of a slot
 abbrev pub value_of : {V : Type 0} → Layout V → ℕ → Result V Refusal

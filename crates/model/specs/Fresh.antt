@@ -60,4 +60,4 @@ slots_to C i cells = record { capacity = C; start = i % C; len = i; cells = writ
 
 -- whether a plan fits rows of these counts: it asks for no more than 65,535 keys, nor for more than a row has cells
 abbrev pub plan_answer : ℕ → ℕ → ℕ → ℕ → ℕ → Result (Unit {0}) Refusal
-plan_answer asked a b c d = cond (nat_le asked (least 65535 a b c d)) (Ok tt) (Err PlanTooLarge)
+plan_answer asked a b c d = cond (asked == least asked a b c d) (Ok tt) (Err PlanTooLarge)

@@ -52,9 +52,8 @@ with_previous ls p q = cond (p == nil) ls (slice_set ls p (record { previous = q
 abbrev pub cut_out : List FreeListEntry → ℕ → FreeListEntry → List FreeListEntry
 cut_out ls k e = slice_set (with_previous (with_next ls e.previous e.next) e.next e.previous) k unlinked
 
--- the head once key k, whose link is e, is taken out
-abbrev pub head_without : ℕ → ℕ → FreeListEntry → ℕ
-head_without h k e = cond (h == k) e.next h
+abbrev pub head_without : ℕ → FreeListEntry → ℕ
+head_without h e = cond (e.previous == nil) e.next h
 
 -- the links with key k put in front of h
 abbrev pub put_first : List FreeListEntry → ℕ → ℕ → List FreeListEntry
@@ -68,7 +67,7 @@ oldest_slot q = slot_at q.cells (place_of q 0)
 abbrev pub claimed : {V : Type 0} → Layout V → ℕ → FreeListEntry → Layout V
 claimed l k e =
     record {
-      head = head_without l.head k e;
+      head = head_without l.head e;
       len = l.len;
       index = l.index;
       links = cut_out l.links k e;
@@ -106,7 +105,15 @@ rewritten l s v =
 
 -- a holding key gets another value
 abbrev pub overwritten : {V : Type 0} → Layout V → ℕ → V → Layout V
-overwritten l k v = rewritten l (slot_at l.index k) v
+overwritten l k v =
+    record {
+      head = l.head;
+      len = l.len;
+      index = l.index;
+      links = l.links;
+      values = slice_set l.values (slot_at l.index k) v;
+      slots = l.slots;
+    }
 
 -- key k stands first in the free list
 abbrev pub released : {V : Type 0} → Layout V → ℕ → Layout V
@@ -136,4 +143,12 @@ emptied_at l k s =
 
 -- a holding key is emptied, and its slot waits
 abbrev pub emptied : {V : Type 0} → Layout V → ℕ → Layout V
-emptied l k = emptied_at l k (slot_at l.index k)
+emptied l k =
+    record {
+      head = k;
+      len = l.len - 1;
+      index = slice_set l.index k nil;
+      links = put_first l.links l.head k;
+      values = l.values;
+      slots = pushed l.slots (slot_at l.index k);
+    }

@@ -24,7 +24,7 @@ holds xs k = cond (slot_at xs k == nil) 0 1
 abbrev pub cell : {V : Type 0} → List ℕ → List V → ℕ → Option V
 cell xs vs k = cond (slot_at xs k == nil) None (slice_get vs (slot_at xs k))
 
--- The cells l stand: they are those of a table whose free list is ks.
+-- The cells l stand: they are those of a table whose free list is ks, whatever it holds.
 pub record Sound {V : Type 0} (l : Layout V) (ks : List ℕ) : Type 0 where
   -- the capacity is small enough, and each row has a cell for each key and slot
   pub small : capacity l ≤ 65535
@@ -47,10 +47,29 @@ pub record Sound {V : Type 0} (l : Layout V) (ks : List ℕ) : Type 0 where
   -- the length counts the holding keys
   pub counted : l.len ≡ sum_to (holds l.index) (capacity l)
 
--- the cells l are those of the table t: they stand, with its free list, and each key holds what the table says
+-- the cells l are those of the table t
 pub record Means {V : Type 0} (l : Layout V) (t : Table V) : Type 0 where
   pub size : t.capacity ≡ capacity l
-  pub sound : Sound l t.free
+  pub small : capacity l ≤ 65535
+  -- each row has a cell for each key and slot
+  pub indexes : capacity l ≤ length l.index
+  pub linked : capacity l ≤ length l.links
+  pub stores : capacity l ≤ length l.values
+  pub backed : Backed l.slots
+  -- the queue's position is legal
+  pub begins : l.slots.start ≤ capacity l - 1
+  pub within : l.slots.len ≤ capacity l
+  -- the free list reads alike along its links both ways; each key holds, or stands in it once
+  pub free : Linked l.links (capacity l) nil l.head t.free
+  pub keys : (k : ℕ) → k < capacity l → count k t.free ≡ vacant l.index k
+  pub loose : (k : ℕ) → k < capacity l → slot_at l.index k ≢ nil → link_at l.links k ≡ unlinked
+  -- each index cell is nil or a slot; each number that waits is a slot; each slot belongs to one key or waits once
+  pub slotted : (k : ℕ) → k < capacity l → slot_at l.index k ≢ nil → slot_at l.index k < capacity l
+  pub queued : All (λ s. s < capacity l) (contents l.slots)
+  pub shared : (s : ℕ) → s < capacity l → sum_to (λ k. same s (slot_at l.index k)) (capacity l) + count s (contents l.slots) ≡ 1
+  -- the length counts the holding keys
+  pub counted : l.len ≡ sum_to (holds l.index) (capacity l)
+  -- each key holds what the table says
   pub valued : (k : ℕ) → k < capacity l → t.held k ≡ cell l.index l.values k
 
 -- A call on the cells l that answered r and left the cells l' is the call on the table that they mean.

@@ -10,6 +10,8 @@ mod plain_rows;
 #[cfg(test)]
 mod queues;
 #[cfg(test)]
+mod tables;
+#[cfg(test)]
 mod texts;
 #[cfg(test)]
 mod vectors;

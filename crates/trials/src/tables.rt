@@ -1,0 +1,81 @@
+// The table over two kinds of rows.
+use codes::PackedRow;
+use refusal::Refusal;
+use rows::{FreeListEntry, InlineRow, Row, SliceRow};
+use slotmap::{Plan, SlotMap};
+use std::process::Abort;
+
+// Three keys are handed out, two given back, and three handed out again.
+fn churn<T: SlotMap<Value = u32>>(rt: &impl Abort, table: &mut T) {
+    assert_eq!(rt; table.insert(10), Ok(Some(0)));
+    assert_eq!(rt; table.insert(11), Ok(Some(1)));
+    assert_eq!(rt; table.insert(12), Ok(Some(2)));
+    assert_eq!(rt; table.remove(0), Ok(Some(10)));
+    assert_eq!(rt; table.remove(2), Ok(Some(12)));
+    assert_eq!(rt; table.remove(2), Ok(None));
+    assert_eq!(rt; table.insert(13), Ok(Some(2)));
+    assert_eq!(rt; table.insert(14), Ok(Some(0)));
+    assert_eq!(rt; table.insert(15), Ok(Some(3)));
+    assert_eq!(rt; table.insert(16), Ok(None));
+    assert_eq!(rt; table.get(2), Ok(Some(13)));
+    assert_eq!(rt; table.get(4), Err(Refusal::KeyPastTable));
+    assert_eq!(rt; table.remove(u32::MAX), Err(Refusal::KeyPastTable));
+}
+
+const LINK: FreeListEntry = FreeListEntry {
+    previous: 0,
+    next: 0,
+};
+
+#[test]
+fn four_keys_over_inline_rows(rt: HostRuntime) {
+    let mut index = InlineRow::filled(0);
+    let mut links = InlineRow::filled(LINK);
+    let mut values = InlineRow::filled(0);
+    let mut slots = InlineRow::filled(0);
+    let plan = Plan::new(4);
+    assert_eq!(rt;
+        plan.check(&mut index, &mut links, &mut values, &mut slots),
+        Ok(())
+    );
+    let mut table = plan.init(index, links, values, slots);
+    churn(&rt, &mut table);
+}
+
+#[test]
+fn four_keys_over_slices_and_packed_rows(rt: HostRuntime) {
+    let mut index = [7; 5];
+    let mut link_bytes = [9; 40];
+    let mut values = [0; 4];
+    let mut slot_bytes = [9; 19];
+    let links: PackedRow<FreeListEntry, SliceRow<u8>> = PackedRow::new(SliceRow::new(
+        &mut link_bytes,
+    ));
+    let slots: PackedRow<u32, SliceRow<u8>> = PackedRow::new(SliceRow::new(&mut slot_bytes));
+    let mut table = Plan::new(u32::MAX).init(
+        SliceRow::new(&mut index),
+        links,
+        SliceRow::new(&mut values),
+        slots,
+    );
+    churn(&rt, &mut table);
+    let rows = table.into_rows();
+    let index = rows.index.into_slice();
+    assert!(rt; index.len() == 5 && index[4] == 7);
+}
+
+#[test]
+fn plans_that_do_not_fit(rt: HostRuntime) {
+    let mut index = InlineRow::filled(0);
+    let mut links = InlineRow::filled(LINK);
+    let mut values = InlineRow::filled(0);
+    let mut slots = InlineRow::filled(0);
+    let plan = Plan::new(65);
+    assert_eq!(rt;
+        plan.check(&mut index, &mut links, &mut values, &mut slots),
+        Err(Refusal::PlanTooLarge)
+    );
+    let mut none = Plan::new(0).init(index, links, values, slots);
+    assert_eq!(rt; none.insert(1), Ok(None));
+    assert_eq!(rt; none.get(0), Err(Refusal::KeyPastTable));
+}
