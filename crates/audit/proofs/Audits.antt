@@ -1,5 +1,5 @@
 -- The parts of the audit together are what makes cells stand.
-use Rattle.std.proofs.Common.{◌≡◌, ℕ, ◌+◌, ◌-◌, ◌%◌, ◌<◌, ◌≤◌, Bool, false, ◌≢◌, List, get_or, Some, MatchBool, sym, refl, ap, ◌∙◌, subst, ⊎_elim, mod-lt, mod-eq_of_lt, zero-add, arith}
+use Rattle.std.proofs.Common.{◌≡◌, ℕ, ◌+◌, ◌-◌, ◌%◌, ◌<◌, ◌≤◌, Bool, false, List, get_or, Some, MatchBool, sym, refl, ap, ◌∙◌, subst, ⊎_elim, mod-lt, mod-eq_of_lt, zero-add, arith}
 use Rattle.std.proofs.ByRecursion.{All-get_or, All-from_get_or}
 use Rattle.std.proofs.lemmas.Option.{slice_get-get_or}
 use Rattle.std.proofs.lemmas.Bool.{cases_eq, cases_lt}
@@ -9,10 +9,10 @@ use Rattle.model.specs.Counts.{sum_to, same, count}
 use Rattle.model.specs.Layouts.{Layout, capacity, nil, slot_at}
 use Rattle.model.specs.Sound.{vacant, holds, cell, Sound, Means, Stands}
 use Rattle.model.specs.Tables.{Table}
-use Rattle.model.proofs.Sums.{same_yes, same_no, sum_alike, sum_add, sum_ones, sum_swap, sum_none, sum_once, sum_counts}
+use Rattle.model.proofs.Sums.{same_yes, same_no, sum_alike, sum_add, sum_ones, sum_counts}
 use Rattle.model.proofs.FreeLists.{linked_below}
 use Rattle.model.proofs.Sounds.{means_of}
-use Rattle.model.proofs.Refines.{holds_yes, holds_no, owned_sum, split_sum, shared_out}
+use Rattle.model.proofs.Refines.{owned_sum, split_sum, shared_out}
 use Rattle.audit.specs.Parts.{Sized, Listed, Loose, bit, given, ring, Apart, Marked, Shared}
 use Rattle.audit.proofs.Calls.{when_like}
 use Rattle.audit.proofs.Sums.{sum_tight, count_sum, all_counted, counted_all}

@@ -1,5 +1,5 @@
 -- Laws of packed cells, over lists alone.
-use Rattle.std.proofs.Common.{◌≡◌, ℕ, ◌+◌, ◌-◌, ◌*◌, ◌/◌, ◌<◌, ◌≤◌, ◌⊎◌, List, ◌++◌, length, get_or, take, drop, set, replicate, Ok, sym, ap, ◌∙◌, ⊎_elim, mul-le-mul_right, add-mul, one-mul, zero-add, div-mul-le_self, arith}
+use Rattle.std.proofs.Common.{◌≡◌, ℕ, ◌+◌, ◌-◌, ◌*◌, ◌/◌, ◌<◌, ◌≤◌, List, ◌++◌, length, get_or, take, drop, set, replicate, Ok, sym, ap, ◌∙◌, ⊎_elim, mul-le-mul_right, add-mul, one-mul, zero-add, div-mul-le_self, arith}
 use lib.Seq.{paste}
 use Rattle.std.proofs.lemmas.List.FromFn.{length-map-range_with_len, get_or-map-range_with_len}
 use Rattle.std.proofs.lemmas.List.Edits.{paste_none, paste_more, paste_all, length-paste, drop-paste}

@@ -1,5 +1,5 @@
 -- Calls made by the cells are the calls made on what the cells mean.
-use Rattle.std.proofs.Common.{◌≡◌, ℕ, eqb, List, [], ◌∷◌, ◌++◌, is_ok, sym, refl, ap, ◌∙◌, subst, append_assoc}
+use Rattle.std.proofs.Common.{◌≡◌, ℕ, eqb, List, [], ◌∷◌, ◌++◌, sym, refl, ap, ◌∙◌, subst, append_assoc}
 use Rattle.model.specs.Checks.{insert_cells, insert_at_cells, remove_cells, get_cells}
 use Rattle.model.specs.Layouts.{Layout, capacity, Legal, SameBeyond}
 use Rattle.model.specs.Sound.{Means, Follows}
@@ -9,8 +9,7 @@ use Rattle.model.proofs.Calls.{get_answers, insert_both, insert_at_both, replace
 use Rattle.model.proofs.Readers.{contains_answers, head_answers, len_answers, step_answers}
 use Rattle.history.specs.declared.calls.Call.{Call}
 use Rattle.history.specs.declared.calls.Call.TheVariants.{Insert, InsertAt, Remove, Replace, Get, Contains, NextFreeKey, Len, Capacity, IsEmpty, IsFull, Step}
-use Rattle.history.specs.declared.calls.Answer.{Answer}
-use Rattle.history.specs.declared.calls.Answer.TheVariants.{Done, Key, Value, Pair, Flag, Number, Refused}
+use Rattle.history.specs.declared.calls.Answer.TheVariants.{Key, Pair, Flag, Number}
 use Rattle.history.specs.Calls.{done, keyed, valued, flagged, answer_to, after, answers_to, after_all, cells_answer, cells_after, cells_answers, cells_after_all}
 use Rattle.history.specs.Histories.{Event}
 use Rattle.history.specs.Promise.{Reached, calls, answers, paired}

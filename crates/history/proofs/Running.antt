@@ -1,9 +1,9 @@
 -- A list of calls made one after another, by the cells.
-use Rattle.std.proofs.Common.{◌≡◌, ℕ, ◌+◌, ◌<◌, ◌≤◌, min, Bool, true, false, cond, List, [], ◌∷◌, ◌++◌, length, get_or, take, drop, set, is_ok, Some, None, Ok, Err, Option, Result, sym, refl, ap, ◌∙◌, subst, append_assoc, arith}
+use Rattle.std.proofs.Common.{◌≡◌, ℕ, ◌+◌, ◌<◌, ◌≤◌, Bool, true, false, cond, List, [], ◌∷◌, ◌++◌, length, get_or, take, drop, set, is_ok, Some, None, Ok, Err, Option, Result, sym, refl, ap, ◌∙◌, subst, append_assoc, arith}
 use Rattle.std.proofs.lemmas.List.{take_more, drop_more, set_at, take_at, length-take}
 use Rattle.refusal.specs.declared.Refusal.{Refusal}
 use Rattle.model.specs.Checks.{insert_cells, insert_at_cells, stored_at, slot_of, remove_cells, get_cells, when_given}
-use Rattle.model.specs.Layouts.{Layout, capacity, Legal, SameBeyond}
+use Rattle.model.specs.Layouts.{Layout, capacity, SameBeyond}
 use Rattle.history.specs.declared.calls.Call.{Call}
 use Rattle.history.specs.declared.calls.Call.TheVariants.{Insert, InsertAt, Remove, Replace, Get, Contains, NextFreeKey, Len, Capacity, IsEmpty, IsFull, Step}
 use Rattle.history.specs.declared.calls.Answer.{Answer}

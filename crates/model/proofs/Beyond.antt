@@ -1,11 +1,11 @@
 -- No call touches a cell at or past the capacity.
-use Rattle.std.proofs.Common.{◌≡◌, ℕ, ◌-◌, ◌<◌, ◌≤◌, cond, eqb, ltb, ◌⊎◌, List, drop, set, is_ok, Some, None, Ok, Err, Option, Result, sym, refl, ap, ◌∙◌, subst, ⊎_elim, arith}
+use Rattle.std.proofs.Common.{◌≡◌, ℕ, ◌<◌, cond, ltb, ◌⊎◌, List, drop, is_ok, Some, None, Ok, Err, Option, Result, sym, refl, ap, ◌∙◌, subst, ⊎_elim, arith}
 use Rattle.std.proofs.lemmas.List.{drop-set-lt}
 use Rattle.std.proofs.lemmas.Bool.{cases_eq, eq-eqb, ne_eqb, cond-true, cond-false}
 use Rattle.std.specs.Result.{result_and, result_map_both}
 use Rattle.refusal.specs.declared.Refusal.{Refusal}
 use Rattle.rows.specs.declared.cell.FreeListEntry.{FreeListEntry}
-use Rattle.model.specs.Layouts.{Layout, capacity, Legal, SameBeyond, nil, slot_at, link_at, unlinked, with_next, with_previous, oldest_slot, filled, rewritten, overwritten, emptied}
+use Rattle.model.specs.Layouts.{Layout, capacity, Legal, SameBeyond, nil, slot_at, link_at, with_next, with_previous, oldest_slot, filled, rewritten, overwritten, emptied}
 use Rattle.model.specs.Checks.{then, passes, seen, slot_of, link_of, neighbour, claimable, fillable, waiting, storable, fill_answer, value_of, vacate_answer, of_slot, from_slot, at_slot, get_cells, insert_cells, insert_at_cells, stored_at, inserted_at, remove_cells, when_given}
 use Rattle.model.proofs.Checked.{then_ok, both_ok, link_ok, claim_ok, claim_beside, neighbour_ok, fillable_claims, fillable_stores, fillable_ok, store_ok, slot_ok}
 

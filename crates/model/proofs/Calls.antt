@@ -1,5 +1,5 @@
 -- Each call on the cells is the call on what they mean.
-use Rattle.std.proofs.Common.{◌≡◌, ℕ, ◌<◌, ◌≤◌, cond, eqb, ltb, ◌≢◌, List, [], ◌∷◌, length, is_ok, Some, None, Ok, Err, Option, Result, sym, refl, ap, ◌∙◌, subst, ⊎_elim, arith}
+use Rattle.std.proofs.Common.{◌≡◌, ℕ, ◌<◌, ◌≤◌, cond, ◌≢◌, List, [], ◌∷◌, length, is_ok, Some, None, Ok, Err, Option, Result, sym, refl, ap, ◌∙◌, subst, ⊎_elim, arith}
 use Rattle.std.proofs.lemmas.Bool.{cases_eq, cases_lt, eq-eqb, ne_eqb, lt-ltb, le-ltb, cond-true, cond-false}
 use Rattle.std.specs.List.{slice_get}
 use Rattle.std.specs.Result.{result_and, result_map_both}
@@ -9,7 +9,7 @@ use Rattle.model.specs.Counts.{count, without}
 use Rattle.model.specs.Layouts.{Layout, capacity, nil, slot_at, filled, overwritten, emptied}
 use Rattle.model.specs.Tables.{Table, stored, stored_first, freed, freed_if, below, insert_answer, insert_after, insert_at_answer, insert_at_after, get_answer, remove_after, stored_if, replace_after}
 use Rattle.model.specs.Sound.{Linked, vacant, Means, Follows}
-use Rattle.model.specs.Checks.{then, passes, slot_of, at_slot, insert_at_cells, stored_at, inserted_at, index_of, of_slot, from_slot, value_of, vacate_answer, fill_answer, get_cells, insert_cells, remove_cells, when_given}
+use Rattle.model.specs.Checks.{then, passes, slot_of, at_slot, insert_at_cells, stored_at, inserted_at, of_slot, from_slot, vacate_answer, get_cells, insert_cells, remove_cells, when_given}
 use Rattle.model.proofs.Sums.{same_yes, same_no, without_first, without_none}
 use Rattle.model.proofs.Refines.{cell_none, holding_loose, filled_means, overwritten_means, emptied_means}
 use Rattle.model.proofs.Passes.{index_vacant, index_holding, fill_passes, vacate_passes, value_there}

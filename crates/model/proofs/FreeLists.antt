@@ -1,12 +1,12 @@
 -- Laws of the free list: a key taken out of it, and a key put in front of it.
-use Rattle.std.proofs.Common.{◌≡◌, ℕ, zero, suc, ◌+◌, ◌-◌, ◌<◌, ◌≤◌, Bool, true, false, cond, eqb, ◌≢◌, ◌⊎◌, List, [], ◌∷◌, ◌++◌, length, get_or, set, sym, refl, ap, ◌∙◌, subst, inl, inr, ⊎_elim, arith, length-set}
+use Rattle.std.proofs.Common.{◌≡◌, ℕ, ◌<◌, ◌≤◌, cond, eqb, ◌≢◌, ◌⊎◌, List, [], ◌∷◌, length, set, sym, refl, ap, ◌∙◌, subst, inl, inr, ⊎_elim, arith, length-set}
 use Rattle.std.proofs.lemmas.List.{get_or-set_same, get_or-set_other, set_past}
 use Rattle.std.proofs.lemmas.Bool.{cases_eq, cases_lt, eq-eqb, ne_eqb, cond-true, cond-false, cond_both}
 use Rattle.rows.specs.declared.cell.FreeListEntry.{FreeListEntry}
-use Rattle.model.specs.Counts.{sum_to, same, count, without}
+use Rattle.model.specs.Counts.{count, without}
 use Rattle.model.specs.Layouts.{nil, unlinked, link_at, with_next, with_previous, cut_out, head_without, put_first}
 use Rattle.model.specs.Sound.{Linked}
-use Rattle.model.proofs.Sums.{same_yes, same_no, without_first, without_later}
+use Rattle.model.proofs.Sums.{same_yes, same_no, without_later}
 
 abbrev next_at : List FreeListEntry → ℕ → ℕ
 next_at ls k = (link_at ls k).next

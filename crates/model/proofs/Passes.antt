@@ -1,21 +1,20 @@
 -- A sound table passes every check.
-use Rattle.std.proofs.Common.{◌≡◌, ℕ, ◌+◌, ◌-◌, ◌%◌, ◌<◌, ◌≤◌, Bool, true, false, cond, eqb, ltb, ◌≢◌, ◌⊎◌, List, [], ◌∷◌, length, get_or, is_ok, Some, None, Ok, Err, Option, Result, sym, refl, ap, ◌∙◌, subst, inl, inr, ⊎_elim, mod-lt, arith}
+use Rattle.std.proofs.Common.{◌≡◌, ℕ, ◌+◌, ◌-◌, ◌<◌, ◌≤◌, cond, eqb, ◌≢◌, ◌⊎◌, List, ◌∷◌, length, is_ok, Some, None, Ok, ap, ◌∙◌, subst, inl, inr, ⊎_elim, mod-lt, arith}
 use Rattle.std.proofs.lemmas.Option.{slice_get-get_or}
-use Rattle.std.proofs.lemmas.Bool.{cases_eq, eq-eqb, ne_eqb, lt-ltb, le-ltb, cond-true, cond-false}
+use Rattle.std.proofs.lemmas.Bool.{cases_eq, eq-eqb, ne_eqb, lt-ltb, cond-true, cond-false}
 use Rattle.std.specs.List.{slice_get, AllByRecursion as All}
 use Rattle.std.specs.Option.{ok_or}
 use Rattle.std.specs.Result.{result_and, result_map_both}
-use Rattle.refusal.specs.declared.Refusal.{Refusal}
-use Rattle.refusal.specs.declared.Refusal.TheVariants.{KeyPastTable, AuditFailed}
+use Rattle.refusal.specs.declared.Refusal.TheVariants.{AuditFailed}
 use Rattle.rows.specs.declared.cell.FreeListEntry.{FreeListEntry}
 use Rattle.rows.proofs.Cells.{write_within}
-use Rattle.containers.specs.Queues.{QueueState, place_of, contents, popped, push_answer}
+use Rattle.containers.specs.Queues.{place_of, contents, popped, push_answer}
 use Rattle.containers.proofs.Rounds.{nth_some}
 use Rattle.model.specs.Counts.{count}
 use Rattle.model.specs.Layouts.{Layout, capacity, nil, slot_at, link_at, unlinked, oldest_slot}
 use Rattle.model.specs.Tables.{Table}
-use Rattle.model.specs.Sound.{Linked, Means}
-use Rattle.model.specs.Checks.{then, passes, seen, bounded, index_of, slot_of, link_of, neighbour, claimable, waiting, vacant_only, room, storable, fillable, fill_answer, value_of, vacate_answer}
+use Rattle.model.specs.Sound.{Means}
+use Rattle.model.specs.Checks.{then, passes, seen, bounded, index_of, link_of, neighbour, claimable, waiting, vacant_only, room, storable, fillable, fill_answer, value_of, vacate_answer}
 use Rattle.model.proofs.FreeLists.{linked_below, linked_before, linked_after, linked_first}
 use Rattle.model.proofs.Refines.{shared_out, vacant_waits, vacant_listed, holding_counts, first_waits, cell_some}
 

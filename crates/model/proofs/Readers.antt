@@ -1,11 +1,11 @@
 -- The calls that only read, on cells that mean a table.
-use Rattle.std.proofs.Common.{◌≡◌, ℕ, zero, suc, ◌+◌, ◌-◌, ◌<◌, ◌≤◌, cond, eqb, List, [], ◌∷◌, Some, None, Ok, Err, Option, sym, refl, ap, ◌∙◌, subst, ⊎_elim, arith}
+use Rattle.std.proofs.Common.{◌≡◌, ℕ, zero, suc, ◌+◌, ◌-◌, ◌<◌, ◌≤◌, cond, List, [], ◌∷◌, None, Ok, Option, sym, refl, ap, ◌∙◌, ⊎_elim, arith}
 use Rattle.std.proofs.lemmas.Bool.{cases_eq, cases_lt, eq-eqb, ne_eqb, cond-true, cond-false}
 use Rattle.std.specs.List.{slice_get, range_with_len, AllByRecursion as All}
 use Rattle.std.specs.Option as options
 use Rattle.std.specs.Result.{result_map_both, result_unwrap_or}
 use Rattle.model.specs.Layouts.{Layout, capacity, nil, slot_at}
-use Rattle.model.specs.Tables.{Table, insert_answer, contains_answer, get_answer, len_answer, first_held, step_answer}
+use Rattle.model.specs.Tables.{Table, insert_answer, contains_answer, len_answer, first_held, step_answer}
 use Rattle.model.specs.Sound.{holds, Means}
 use Rattle.model.specs.Checks.{contains_cells, head_cells, get_cells, step_cells}
 use Rattle.model.proofs.Sums.{sum_alike}

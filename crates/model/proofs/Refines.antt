@@ -1,17 +1,16 @@
 -- Each step on the cells is a step of the model.
-use Rattle.std.proofs.Common.{◌≡◌, ℕ, zero, suc, ◌+◌, ◌-◌, ◌%◌, ◌<◌, ◌≤◌, Bool, true, false, cond, eqb, ◌≢◌, ◌⊎◌, List, [], ◌∷◌, ◌++◌, length, get_or, drop, set, Some, None, Option, sym, refl, ap, ◌∙◌, subst, inl, inr, ⊎_elim, mod-lt, arith, length-set}
+use Rattle.std.proofs.Common.{◌≡◌, ℕ, ◌+◌, ◌-◌, ◌%◌, ◌<◌, ◌≤◌, cond, eqb, ◌≢◌, List, [], ◌∷◌, ◌++◌, length, drop, set, Some, None, sym, refl, ap, ◌∙◌, subst, ⊎_elim, mod-lt, arith, length-set}
 use Rattle.std.specs.List.{slice_get, AllByRecursion as All}
 use Rattle.std.specs.Map.{update}
-use Rattle.std.proofs.lemmas.List.{get_or-set_same, get_or-set_other, get_or_past}
+use Rattle.std.proofs.lemmas.List.{get_or-set_same, get_or-set_other}
 use Rattle.std.proofs.ByRecursion.{All-push}
 use Rattle.std.proofs.lemmas.Option.{slice_get-get_or}
 use Rattle.std.proofs.lemmas.Map.{update_here, update_apart}
-use Rattle.std.proofs.lemmas.Bool.{cases_eq, cases_lt, cases_order, eq-eqb, ne_eqb, cond-true, cond-false, cond_both}
-use Rattle.rows.specs.declared.cell.FreeListEntry.{FreeListEntry}
+use Rattle.std.proofs.lemmas.Bool.{cases_eq, cases_lt, eq-eqb, ne_eqb, cond-true, cond-false}
 use Rattle.model.specs.Counts.{sum_to, same, count, without}
-use Rattle.model.specs.Layouts.{Layout, capacity, nil, unlinked, slot_at, link_at, oldest_slot, cut_out, put_first, filled, overwritten, emptied}
+use Rattle.model.specs.Layouts.{Layout, capacity, nil, unlinked, slot_at, link_at, oldest_slot, cut_out, filled, overwritten, emptied}
 use Rattle.model.specs.Tables.{Table, stored, freed}
-use Rattle.model.specs.Sound.{Linked, vacant, holds, cell, Means}
+use Rattle.model.specs.Sound.{vacant, holds, cell, Means}
 use Rattle.model.proofs.Sums.{same_yes, same_no, same_small, sum_alike, sum_change, sum_term, sum_two, sum_add, sum_ones, sum_swap, sum_none, sum_once, sum_counts, count_push, count_without_same, count_without_other}
 use Rattle.model.proofs.FreeLists.{Once, linked_below, linked_first, linked_before, linked_after, linked_out, linked_front, cut_out_length, cut_out_other, cut_out_here, put_first_length, put_first_other}
 use Rattle.containers.specs.Queues.{contents, pushed, popped}

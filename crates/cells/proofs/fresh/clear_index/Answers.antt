@@ -1,5 +1,4 @@
 use Rattle.std.proofs.Common.{refl, ◌∙◌}
-use Rattle.model.specs.Fresh.{fresh_link}
 use Rattle.model.specs.Layouts.{nil}
 use Rattle.model.proofs.Fresh.{written_step}
 use Rattle.cells.proofs.fresh.clear_index.Goals as goal

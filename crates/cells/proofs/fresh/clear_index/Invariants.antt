@@ -1,5 +1,5 @@
 use Rattle.std.proofs.Common.{◌≡◌}
-use Rattle.model.specs.Fresh.{written, fresh_link}
+use Rattle.model.specs.Fresh.{written}
 use Rattle.model.specs.Layouts.{nil}
 use Rattle.cells.proofs.fresh.clear_index.Given as goal
 

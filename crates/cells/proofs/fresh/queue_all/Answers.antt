@@ -1,4 +1,4 @@
-use Rattle.std.proofs.Common.{◌≡◌, sym, refl, ap, ◌∙◌, arith}
+use Rattle.std.proofs.Common.{◌≡◌, refl, ap, ◌∙◌, arith}
 use Rattle.model.specs.Fresh.{slots_to}
 use Rattle.model.proofs.Fresh.{slots_none, slots_more}
 use Rattle.cells.proofs.fresh.queue_all.Goals as goal

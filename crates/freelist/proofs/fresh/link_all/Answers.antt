@@ -1,6 +1,5 @@
-use mathlib.Core.Path.{refl, ◌∙◌}
+use mathlib.Core.Path.{◌∙◌}
 use Rattle.model.specs.Fresh.{fresh_link}
-use Rattle.model.specs.Layouts.{nil}
 use Rattle.model.proofs.Fresh.{written_step}
 use Rattle.freelist.proofs.fresh.link_all.Goals as goal
 

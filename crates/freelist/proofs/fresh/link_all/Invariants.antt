@@ -1,6 +1,5 @@
 use mathlib.Core.Path.{◌≡◌}
 use Rattle.model.specs.Fresh.{written, fresh_link}
-use Rattle.model.specs.Layouts.{nil}
 use Rattle.freelist.proofs.fresh.link_all.Given as goal
 
 abbrev pub invariant-loop-key : goal.invariant-loop-key

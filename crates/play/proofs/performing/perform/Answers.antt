@@ -2,7 +2,7 @@ use mathlib.Core.Path.{sym, subst, ◌∙◌}
 use mathlib.Core.List.{[], ◌∷◌, ◌++◌}
 use Rattle.model.specs.Layouts.{SameBeyond}
 use Rattle.model.specs.Sound.{Means}
-use Rattle.history.specs.Calls.{after, cells_after}
+use Rattle.history.specs.Calls.{after}
 use Rattle.history.specs.Promise.{Reached}
 use Rattle.history.proofs.Made.{call_follows, call_beyond, reached_made}
 use Rattle.play.proofs.performing.perform.Goals as goal

@@ -1,6 +1,6 @@
 use mathlib.Core.Path.{◌≡◌}
 use mathlib.Core.List.{◌++◌}
-use lib.ListN.{length, take, drop}
+use lib.ListN.{take, drop}
 use Rattle.model.specs.Layouts.{capacity, SameBeyond}
 use Rattle.history.specs.Calls.{cells_answers, cells_after_all}
 use Rattle.play.proofs.performing.run.Given as goal

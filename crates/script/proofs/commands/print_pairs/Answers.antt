@@ -1,4 +1,4 @@
-use Rattle.std.proofs.Common.{◌≡◌, ℕ, string_bytes, sym, refl, ap, ◌∙◌}
+use Rattle.std.proofs.Common.{string_bytes, refl, ap, ◌∙◌}
 use Rattle.std.proofs.lemmas.Result.{IfOk-weaker}
 use Rattle.model.specs.Tables.{step_answer}
 use Rattle.text.proofs.Ends.{pushed_when_made}

@@ -1,5 +1,3 @@
-use Rattle.std.proofs.Common.{sym, subst, arith}
-use Rattle.model.specs.Sound.{Means}
 use Rattle.model.proofs.Fresh.{fresh_least, fresh_beyond}
 use Rattle.history.proofs.Reached.{reached_fresh}
 use Rattle.cells.proofs.plan.Plan.init.Goals as goal

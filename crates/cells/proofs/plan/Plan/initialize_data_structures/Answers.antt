@@ -1,5 +1,4 @@
-use Rattle.std.proofs.Common.{◌≡◌, ◌≤◌, length, sym, refl, ap, ◌∙◌, arith}
-use Rattle.model.specs.Fresh.{least}
+use Rattle.std.proofs.Common.{length, ap, ◌∙◌, arith}
 use Rattle.model.proofs.Fresh.{fresh_laid}
 use Rattle.cells.proofs.plan.Plan.initialize_data_structures.Goals as goal
 

@@ -1,4 +1,4 @@
-use Rattle.std.proofs.Common.{◌≡◌, ℕ, ap, ◌∙◌, arith, rules}
+use Rattle.std.proofs.Common.{◌≡◌, ℕ, arith, rules}
 use Rattle.model.proofs.Fills.{store_steps}
 use Rattle.cells.specs.Laid.{laid}
 use Rattle.cells.proofs.steps.MetaSlotMapSteps.store_value.Goals as goal

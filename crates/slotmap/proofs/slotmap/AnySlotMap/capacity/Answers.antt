@@ -1,4 +1,4 @@
-use Rattle.std.proofs.Common.{sym, ap, ◌∙◌}
+use Rattle.std.proofs.Common.{sym, ◌∙◌}
 use Rattle.slotmap.proofs.slotmap.AnySlotMap.capacity.Goals as goal
 
 pub returns : goal.returns

@@ -1,4 +1,4 @@
-use Rattle.std.proofs.Common.{eqb, sym, ap, ◌∙◌}
+use Rattle.std.proofs.Common.{eqb, ap, ◌∙◌}
 use Rattle.model.proofs.Readers.{len_answers}
 use Rattle.slotmap.proofs.slotmap.AnySlotMap.is_empty.Goals as goal
 

@@ -1,4 +1,4 @@
-use Rattle.std.proofs.Common.{sym, ap, ◌∙◌}
+use Rattle.std.proofs.Common.{◌∙◌}
 use Rattle.model.proofs.Readers.{len_answers}
 use Rattle.slotmap.proofs.slotmap.AnySlotMap.len.Goals as goal
 

@@ -1,4 +1,4 @@
-use Rattle.std.proofs.Common.{sym, ap, ◌∙◌}
+use Rattle.std.proofs.Common.{◌∙◌}
 use Rattle.model.proofs.Readers.{head_answers}
 use Rattle.slotmap.proofs.slotmap.AnySlotMap.next_free_key.Goals as goal
 
