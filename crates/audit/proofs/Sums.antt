@@ -1,6 +1,6 @@
 -- Laws of sums and counts that the audit rests on.
 use Rattle.std.proofs.Common.{◌≡◌, ℕ, zero, suc, ◌+◌, ◌<◌, ◌≤◌, List, [], ◌∷◌, length, get_or, sym, refl, ap, subst, ⊎_elim, arith}
-use Rattle.std.specs.List.{AllByRecursion as All}
+use Rattle.std.specs.List.{AllByRecursion}
 use Rattle.std.proofs.lemmas.Bool.{cases_eq}
 use Rattle.model.specs.Counts.{sum_to, same, count}
 use Rattle.model.proofs.Sums.{same_yes, same_no}
@@ -40,11 +40,11 @@ count_sum s d [] = refl
 count_sum s d (y ∷ ys) = omega (arith, count_sum s d ys, sum_front (λ i. same s (get_or (y ∷ ys) i d)) (length ys))
 
 -- what holds of each number of a list
-pub all_counted : (P : ℕ → Type 0) (ys : List ℕ) → ((k : ℕ) → 0 < count k ys → P k) → All P ys
+pub all_counted : (P : ℕ → Type 0) (ys : List ℕ) → ((k : ℕ) → 0 < count k ys → P k) → AllByRecursion P ys
 all_counted P [] h = tt
 all_counted P (y ∷ ys) h = (h y (omega (arith, same_yes y y refl)), all_counted P ys (λ k l. h k (omega arith)))
 
-pub counted_all : (P : ℕ → Type 0) (ys : List ℕ) → All P ys → (k : ℕ) → 0 < count k ys → P k
+pub counted_all : (P : ℕ → Type 0) (ys : List ℕ) → AllByRecursion P ys → (k : ℕ) → 0 < count k ys → P k
 counted_all P [] a k l = absurd (omega arith)
 counted_all P (y ∷ ys) a k l =
     ⊎_elim

@@ -1,6 +1,6 @@
 -- The walk along the free list: where it ends well it has met the list, and along the list it ends well.
 use Rattle.std.proofs.Common.{◌≡◌, ℕ, zero, suc, ◌+◌, ◌-◌, ◌<◌, ◌≤◌, Bool, true, false, eqb, ltb, ◌≢◌, ◌⊎◌, List, [], ◌∷◌, length, Some, None, MatchBool, Option, sym, refl, ap, ◌∙◌, subst, inl, inr, ⊎_elim, arith}
-use Rattle.std.specs.List.{AllByRecursion as All}
+use Rattle.std.specs.List.{AllByRecursion}
 use Rattle.std.proofs.lemmas.Bool.{cases_eq, cases_lt, eq-eqb, ne_eqb, lt-ltb, le-ltb, eqb-true, cond-true, cond-false, both_ways}
 use Rattle.rows.specs.declared.cell.FreeListEntry.{FreeListEntry}
 use Rattle.model.specs.Counts.{count}
@@ -51,7 +51,7 @@ module _ (xs : List ℕ) (ls : List FreeListEntry) (C : ℕ) where
 
   -- a walk that ends well has met the list
   walk_met : (n p h : ℕ) → walk xs ls C n p h ≡ true
-      → (ks : List ℕ) × Linked ls C p h ks × All (λ k. slot_at xs k ≡ nil) ks × (length ks ≡ n)
+      → (ks : List ℕ) × Linked ls C p h ks × AllByRecursion (λ k. slot_at xs k ≡ nil) ks × (length ks ≡ n)
   walk_met zero p h w = ([], eqb-true h nil w, tt, refl)
   walk_met (suc n) p h w =
       ⊎_elim
@@ -63,7 +63,7 @@ module _ (xs : List ℕ) (ls : List FreeListEntry) (C : ℕ) where
       (key_tells p h)
 
   -- along the list a walk ends well
-  walk_listed : (n p h : ℕ) (ks : List ℕ) → Linked ls C p h ks → All (λ k. slot_at xs k ≡ nil) ks → length ks ≡ n → walk xs ls C n p h ≡ true
+  walk_listed : (n p h : ℕ) (ks : List ℕ) → Linked ls C p h ks → AllByRecursion (λ k. slot_at xs k ≡ nil) ks → length ks ≡ n → walk xs ls C n p h ≡ true
   walk_listed zero p h [] c a e = eq-eqb h nil c
   walk_listed (suc n) p h [] c a e = absurd (omega arith)
   walk_listed zero p h (k ∷ ks) c a e = absurd (omega arith)
@@ -95,7 +95,7 @@ module _ (xs : List ℕ) (ls : List FreeListEntry) (C : ℕ) where
   walk_ends n i p h l = let none : 0 ≡ n - i = omega arith in ap (λ m. walk xs ls C m p h) none
 
 -- the keys of a free list are below its bound, and none stands in it twice
-pub linked_all : (ls : List FreeListEntry) (C p h : ℕ) (ks : List ℕ) → Linked ls C p h ks → All (λ k. k < C) ks
+pub linked_all : (ls : List FreeListEntry) (C p h : ℕ) (ks : List ℕ) → Linked ls C p h ks → AllByRecursion (λ k. k < C) ks
 linked_all ls C p h [] c = tt
 linked_all ls C p h (k ∷ ks) c = (c.1, linked_all ls C k (link_at ls k).next ks c.3)
 

@@ -1,6 +1,6 @@
 -- What the parts of the audit look at. Together they are what makes cells stand.
 use Rattle.std.specs.Prelude.{◌≡◌, ℕ, ◌+◌, ◌-◌, ◌%◌, ◌<◌, ◌≤◌, Bool, false, cond, ◌≢◌, List, length, Some, None, Option, ◌==◌, nat_lt, slice_index_or}
-use Rattle.std.specs.List.{AllByRecursion as All}
+use Rattle.std.specs.List.{AllByRecursion}
 use Rattle.rows.specs.declared.cell.FreeListEntry.{FreeListEntry}
 use Rattle.containers.specs.Queues.{QueueState, Backed, contents}
 use Rattle.model.specs.Counts.{sum_to, same, count}
@@ -26,7 +26,7 @@ next_key xs ls C p k =
 
 -- the free list from h has n keys, all of them vacant
 abbrev pub Listed : List ℕ → List FreeListEntry → ℕ → ℕ → ℕ → Type 0
-Listed xs ls C h n = (ks : List ℕ) × Linked ls C nil h ks × All (λ k. slot_at xs k ≡ nil) ks × (length ks ≡ n)
+Listed xs ls C h n = (ks : List ℕ) × Linked ls C nil h ks × AllByRecursion (λ k. slot_at xs k ≡ nil) ks × (length ks ≡ n)
 
 -- a holding key has no links
 abbrev pub Loose : List ℕ → List FreeListEntry → ℕ → Type 0
@@ -64,5 +64,5 @@ pub record Marked (before after : List Bool) (C : ℕ) (f : ℕ → ℕ) (m n : 
 pub record Shared (xs : List ℕ) (q : QueueState ℕ) (n : ℕ) : Type 0 where
   pub slotted : (k : ℕ) → k < q.capacity → slot_at xs k ≢ nil → slot_at xs k < q.capacity
   pub counted : n ≡ sum_to (holds xs) q.capacity
-  pub queued : All (λ s. s < q.capacity) (contents q)
+  pub queued : AllByRecursion (λ s. s < q.capacity) (contents q)
   pub apart : (s : ℕ) → s < q.capacity → sum_to (λ k. same s (slot_at xs k)) q.capacity + count s (contents q) ≤ 1

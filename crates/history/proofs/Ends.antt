@@ -1,6 +1,6 @@
 -- Lists by their last element.
 use Rattle.std.proofs.Common.{◌≡◌, ℕ, ◌⊎◌, List, [], ◌∷◌, ◌++◌, sym, subst, inl, inr, ⊎_elim, arith}
-use Rattle.std.specs.List.{AllByRecursion as All}
+use Rattle.std.specs.List.{AllByRecursion}
 use Rattle.std.proofs.lemmas.List.{append-nil, append_assoc}
 
 more_ends : {A : Type 0} (M : List A → Type 0) → ((h : List A) (e : A) → M h → M (h ++ e ∷ [])) → (g h : List A) → M g → M (g ++ h)
@@ -30,10 +30,10 @@ end_split {A} (y ∷ h) e (z ∷ b) x l p =
     (end_split h e b x l q)
 
 -- what holds of all holds of one of them, and of the first of them
-pub all_at : {A : Type 0} (P : A → Type 0) (b : List A) (x : A) (l : List A) → All P (b ++ x ∷ l) → P x
+pub all_at : {A : Type 0} (P : A → Type 0) (b : List A) (x : A) (l : List A) → AllByRecursion P (b ++ x ∷ l) → P x
 all_at P [] x l a = a.0
 all_at P (y ∷ b) x l a = all_at P b x l a.1
 
-pub all_front : {A : Type 0} (P : A → Type 0) (b l : List A) → All P (b ++ l) → All P b
+pub all_front : {A : Type 0} (P : A → Type 0) (b l : List A) → AllByRecursion P (b ++ l) → AllByRecursion P b
 all_front P [] l a = tt
 all_front P (y ∷ b) l a = (a.0, all_front P b l a.1)

@@ -1,6 +1,6 @@
 -- The key that an insert gets, by the history before it.
 use Rattle.std.proofs.Common.{◌≡◌, ℕ, ◌<◌, ◌≤◌, ◌⊎◌, List, [], ◌∷◌, sym, refl, ap, ◌∙◌, subst, inl, inr, ⊎_elim, arith}
-use Rattle.std.specs.List.{slice_get, AllByRecursion as All}
+use Rattle.std.specs.List.{slice_get, AllByRecursion}
 use Rattle.std.proofs.ByRecursion.{All-weaker}
 use Rattle.std.proofs.lemmas.Bool.{cases_eq, cases_lt}
 use Rattle.model.specs.Counts.{count}
@@ -13,7 +13,7 @@ use Rattle.history.proofs.Keys.{told_listed, told_vacant, told_free, told_taken}
 use Rattle.history.proofs.Order.{Sorted, Before}
 use Rattle.history.proofs.Told.{Told}
 
-listed_all : (P : ℕ → Type 0) (ks : List ℕ) → All P ks → (j : ℕ) → 0 < count j ks → P j
+listed_all : (P : ℕ → Type 0) (ks : List ℕ) → AllByRecursion P ks → (j : ℕ) → 0 < count j ks → P j
 listed_all P [] a j some = absurd (omega arith)
 listed_all P (k ∷ ks) a j some =
     ⊎_elim
@@ -34,7 +34,7 @@ one_split x xs e c =
     (cases_eq c.0 x)
 
 -- key k was emptied since each of these was, so since all of them
-since_all : {V : Type 0} (k : ℕ) (h : List (Event V)) → Since (Empties k) (Empties k) h → (ks : List ℕ) → All (λ j. Since (Empties k) (Empties j) h) ks
+since_all : {V : Type 0} (k : ℕ) (h : List (Event V)) → Since (Empties k) (Empties k) h → (ks : List ℕ) → AllByRecursion (λ j. Since (Empties k) (Empties j) h) ks
     → Since (Empties k) (OneOf ks) h
 since_all k h s [] a = since_weaker (Empties k) (Empties k) (OneOf []) (λ e c. absurd (omega (arith, c.1))) h s
 since_all k h s (x ∷ xs) a =
@@ -52,7 +52,7 @@ module _ {V : Type 0} (C : ℕ) (h : List (Event V)) (t : Table V) (told : Told 
   unlisted_holds : (ks : List ℕ) → t.free ≡ ks → (j : ℕ) → j < C → count j ks ≡ 0 → Holds j h
   unlisted_holds ks p j b none = told_taken C h j (t.held j) (count j t.free) (told.keys j) b (ap (count j) p ∙ none)
 
-  emptied_latest : (k : ℕ) (ks : List ℕ) → t.free ≡ k ∷ ks → All (Before h k) ks → Since (Empties k) (Empties k) h → EmptiedLatest C k h
+  emptied_latest : (k : ℕ) (ks : List ℕ) → t.free ≡ k ∷ ks → AllByRecursion (Before h k) ks → Since (Empties k) (Empties k) h → EmptiedLatest C k h
   emptied_latest k ks p order s =
       since_weaker (Empties k) (OneOf (k ∷ ks)) (λ e. (j : ℕ) × (j < C) × Vacant j h × Empties j e)
       (λ e c. (c.0, vacant_listed (k ∷ ks) p c.0 c.1 c.2, c.3)) h
@@ -62,9 +62,9 @@ module _ {V : Type 0} (C : ℕ) (h : List (Event V)) (t : Table V) (told : Told 
             (λ j. ⊎_elim (λ r. r) (λ c. absurd (since_never (Empties k) (Empties k) h s c.0))) ks order,
       ))
 
-  smallest_unused : (k : ℕ) (ks : List ℕ) → t.free ≡ k ∷ ks → k < C → All (Before h k) ks → Never (Empties k) h → SmallestUnused C k h
+  smallest_unused : (k : ℕ) (ks : List ℕ) → t.free ≡ k ∷ ks → k < C → AllByRecursion (Before h k) ks → Never (Empties k) h → SmallestUnused C k h
   smallest_unused k ks p first order never =
-      let all : All (Unused h k) (k ∷ ks) = (
+      let all : AllByRecursion (Unused h k) (k ∷ ks) = (
         (never, omega arith),
         All-weaker (Before h k) (Unused h k)
             (λ j. ⊎_elim (λ s. absurd (since_never (Empties k) (Empties j) h s never)) (λ c. (c.1, omega (arith, c.2)))) ks order,

@@ -1,7 +1,7 @@
 -- A history of a table: its calls with their answers, oldest first; and what they tell of its keys, without a
 -- look at its cells.
 use Rattle.std.specs.Prelude.{◌≡◌, ℕ, ◌<◌, ◌⊎◌, List, ◌∷◌, ◌++◌, Some, None}
-use Rattle.std.specs.List.{AllByRecursion as All}
+use Rattle.std.specs.List.{AllByRecursion}
 use Rattle.history.specs.declared.calls.Call.{Call}
 use Rattle.history.specs.declared.calls.Call.TheVariants.{Insert, InsertAt, Remove, Replace}
 use Rattle.history.specs.declared.calls.Answer.{Answer}
@@ -36,7 +36,7 @@ Idle e = (k : ℕ) → (Written k e → ⊥) × (Empties k e → ⊥)
 
 -- none of the events is such a one
 abbrev pub Never : {V : Type 0} → (Event V → Type 0) → List (Event V) → Type 0
-Never P h = All (λ e. P e → ⊥) h
+Never P h = AllByRecursion (λ e. P e → ⊥) h
 
 -- one event is such a P, and no Q comes after it
 abbrev pub Since : {V : Type 0} → (Event V → Type 0) → (Event V → Type 0) → List (Event V) → Type 0

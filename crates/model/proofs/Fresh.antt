@@ -1,7 +1,7 @@
 -- The cells of a fresh table mean the fresh table.
 use Rattle.std.proofs.Common.{◌≡◌, ℕ, zero, suc, ◌+◌, ◌-◌, ◌%◌, ◌<◌, ◌≤◌, cond, eqb, ltb, List, length, get_or, drop, set, is_ok, Some, Ok, Result, sym, refl, ap, ◌∙◌, subst, ⊎_elim, mod-eq_of_lt, arith, length-set}
 use native.Mathlib.Nat.{mod-zero, mod_self, mod-add-mod}
-use Rattle.std.specs.List.{slice_get, range_with_len, AllByRecursion as All}
+use Rattle.std.specs.List.{slice_get, range_with_len, AllByRecursion}
 use Rattle.std.proofs.lemmas.List.FromFn.{length-range_with_len, get_or-range_with_len}
 use Rattle.std.proofs.lemmas.List.{get_or-set_same, get_or-set_other, drop-set-lt}
 use Rattle.std.proofs.lemmas.Option.{slice_get-get_or}
@@ -65,7 +65,7 @@ count_counting k a (suc n) l b =
     (λ (e : k ≡ a → ⊥). omega (arith, same_no k a e, count_counting k (a + 1) n (omega arith) (omega arith)))
     (cases_eq k a)
 
-all_counting : (C a n : ℕ) → a + n ≤ C → All (λ s. s < C) (range_with_len a n)
+all_counting : (C a n : ℕ) → a + n ≤ C → AllByRecursion (λ s. s < C) (range_with_len a n)
 all_counting C a zero l = tt
 all_counting C a (suc n) l = (omega arith, all_counting C (a + 1) n (omega arith))
 
@@ -128,7 +128,7 @@ fresh_means {V} C xs ls vs qs small fx fl fv fq =
       keys = λ k b. count_counting k 0 C (omega arith) (omega arith) ∙ sym (same_yes (slot_at ys k) nil (empty k b));
       loose = λ k b e. absurd (e (empty k b));
       slotted = λ k b e. absurd (e (empty k b));
-      queued = subst (All (λ s. s < C)) (sym line) (all_counting C 0 C (omega arith));
+      queued = subst (AllByRecursion (λ s. s < C)) (sym line) (all_counting C 0 C (omega arith));
       shared = λ s b.
           let none : sum_to (λ k. same s (slot_at ys k)) C ≡ 0 =
           sum_alike (λ k. same s (slot_at ys k)) (λ _. 0) C

@@ -2,7 +2,7 @@
 use Rattle.std.proofs.Common.{◌≡◌, ℕ, ◌+◌, ◌-◌, ◌<◌, ◌≤◌, cond, eqb, ◌≢◌, ◌⊎◌, List, ◌∷◌, length, is_ok, Some, None, Ok, ap, ◌∙◌, subst, inl, inr, ⊎_elim, mod-lt, arith}
 use Rattle.std.proofs.lemmas.Option.{slice_get-get_or}
 use Rattle.std.proofs.lemmas.Bool.{cases_eq, eq-eqb, ne_eqb, lt-ltb, cond-true, cond-false}
-use Rattle.std.specs.List.{slice_get, AllByRecursion as All}
+use Rattle.std.specs.List.{slice_get, AllByRecursion}
 use Rattle.std.specs.Option.{ok_or}
 use Rattle.std.specs.Result.{result_and, result_map_both}
 use Rattle.refusal.specs.declared.Refusal.TheVariants.{AuditFailed}
@@ -67,7 +67,7 @@ module _ {V : Type 0} (l : Layout V) (t : Table V) (h : Means l t) where
   pub waits_slot : 0 < l.slots.len → (oldest_slot l.slots < capacity l) × (waiting l.slots ≡ Ok (oldest_slot l.slots))
   waits_slot some =
       let q = l.slots in
-      let all : All (λ s. s < capacity l) (oldest_slot q ∷ contents (popped q)) = subst (All (λ s. s < capacity l)) (first_waits l t h some) h.queued in
+      let all : AllByRecursion (λ s. s < capacity l) (oldest_slot q ∷ contents (popped q)) = subst (AllByRecursion (λ s. s < capacity l)) (first_waits l t h some) h.queued in
       let positive : 0 < capacity l = omega (arith, some, h.within) in
       let below = mod-lt (q.start + q.capacity - q.len + 0) positive in (
         all.0,

@@ -1,7 +1,7 @@
 -- The calls that only read, on cells that mean a table.
 use Rattle.std.proofs.Common.{◌≡◌, ℕ, zero, suc, ◌+◌, ◌-◌, ◌<◌, ◌≤◌, cond, List, [], ◌∷◌, None, Ok, Option, sym, refl, ap, ◌∙◌, ⊎_elim, arith}
 use Rattle.std.proofs.lemmas.Bool.{cases_eq, cases_lt, eq-eqb, ne_eqb, cond-true, cond-false}
-use Rattle.std.specs.List.{slice_get, range_with_len, AllByRecursion as All}
+use Rattle.std.specs.List.{slice_get, range_with_len, AllByRecursion}
 use Rattle.std.specs.Option as options
 use Rattle.std.specs.Result.{result_map_both, result_unwrap_or}
 use Rattle.model.specs.Layouts.{Layout, capacity, nil, slot_at}
@@ -14,14 +14,14 @@ use Rattle.model.proofs.Passes.{value_there}
 use Rattle.model.proofs.Calls.{inside, past, held_none, slot_past, slot_none, slot_some, head_none, head_some, get_answers}
 
 -- the first of some keys is the same where each of these keys holds the same
-first_alike : {V : Type 0} (f g : ℕ → Option V) (ks : List ℕ) → All (λ k. f k ≡ g k) ks → first_held f ks ≡ first_held g ks
+first_alike : {V : Type 0} (f g : ℕ → Option V) (ks : List ℕ) → AllByRecursion (λ k. f k ≡ g k) ks → first_held f ks ≡ first_held g ks
 first_alike f g [] same = refl
 first_alike f g (k ∷ ks) same =
     ap (λ o. options.option_or (options.option_map (λ v. (k, v)) o) (first_held f ks)) same.0
     ∙ ap (options.option_or (options.option_map (λ v. (k, v)) (g k))) (first_alike f g ks same.1)
 
 -- what holds of each number below n holds of those from p on
-all_from : (P : ℕ → Type 0) (p m n : ℕ) → p + m ≤ n → ((k : ℕ) → k < n → P k) → All P (range_with_len p m)
+all_from : (P : ℕ → Type 0) (p m n : ℕ) → p + m ≤ n → ((k : ℕ) → k < n → P k) → AllByRecursion P (range_with_len p m)
 all_from P p zero n fits each = tt
 all_from P p (suc m) n fits each = (each p (omega arith), all_from P (p + 1) m n (omega arith) each)
 

@@ -1,6 +1,6 @@
 -- Each step on the cells is a step of the model.
 use Rattle.std.proofs.Common.{◌≡◌, ℕ, ◌+◌, ◌-◌, ◌%◌, ◌<◌, ◌≤◌, cond, eqb, ◌≢◌, List, [], ◌∷◌, ◌++◌, length, drop, set, Some, None, sym, refl, ap, ◌∙◌, subst, ⊎_elim, mod-lt, arith, length-set}
-use Rattle.std.specs.List.{slice_get, AllByRecursion as All}
+use Rattle.std.specs.List.{slice_get, AllByRecursion}
 use Rattle.std.specs.Map.{update}
 use Rattle.std.proofs.lemmas.List.{get_or-set_same, get_or-set_other}
 use Rattle.std.proofs.ByRecursion.{All-push}
@@ -206,7 +206,7 @@ module _ {V : Type 0} (l : Layout V) (t : Table V) (h : Means l t) where
       let ys = set xs k s in
       let some = vacant_waits k b e in
       let split : contents l.slots ≡ s ∷ contents (popped l.slots) = first_waits some in
-      let all : (s < C) × All (λ t. t < C) (contents (popped l.slots)) = subst (All (λ t. t < C)) split h.queued in
+      let all : (s < C) × AllByRecursion (λ t. t < C) (contents (popped l.slots)) = subst (AllByRecursion (λ t. t < C)) split h.queued in
       let sn : s ≢ nil = omega (arith, all.0, h.small) in
       let kx : k < length xs = omega (arith, b, h.indexes) in
       let here : slot_at ys k ≡ s = get_or-set_same xs k s nil kx in
@@ -337,7 +337,7 @@ module _ {V : Type 0} (l : Layout V) (t : Table V) (h : Means l t) where
             (λ (q : j ≡ k). absurd (hj (ap (slot_at ys) q ∙ here)))
             (λ (q : j ≡ k → ⊥). subst (λ n. n < C) (sym (there j q)) (h.slotted j bj (λ r. hj (there j q ∙ r))))
             (cases_eq j k);
-        queued = subst (All (λ t. t < C)) (sym push) (All-push (λ t. t < C) (contents l.slots) s h.queued (h.slotted k b e));
+        queued = subst (AllByRecursion (λ t. t < C)) (sym push) (All-push (λ t. t < C) (contents l.slots) s h.queued (h.slotted k b e));
         shared = λ u bu.
             let f : ℕ → ℕ = λ j. same u (slot_at ys j) in
             let g : ℕ → ℕ = λ j. same u (slot_at xs j) in

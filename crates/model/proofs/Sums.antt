@@ -1,7 +1,7 @@
 -- Laws of sum_to, same, count and without.
 use Rattle.std.proofs.Common.{◌≡◌, ℕ, zero, suc, ◌+◌, ◌<◌, ◌≤◌, eqb, ◌≢◌, List, [], ◌∷◌, ◌++◌, length, sym, refl, ap, ◌∙◌, ⊎_elim, arith}
 use Rattle.std.proofs.lemmas.Bool.{cases_eq, eq-eqb, ne_eqb, cond-true, cond-false}
-use Rattle.std.specs.List.{AllByRecursion as All}
+use Rattle.std.specs.List.{AllByRecursion}
 use Rattle.model.specs.Counts.{sum_to, same, count, without}
 
 pub same_yes : (x y : ℕ) → x ≡ y → same x y ≡ 1
@@ -84,7 +84,7 @@ sum_once y (suc n) l =
     (cases_eq n y)
 
 -- how often the numbers below n stand in a list of such numbers: as often as it is long
-pub sum_counts : (n : ℕ) (ys : List ℕ) → All (λ s. s < n) ys → sum_to (λ s. count s ys) n ≡ length ys
+pub sum_counts : (n : ℕ) (ys : List ℕ) → AllByRecursion (λ s. s < n) ys → sum_to (λ s. count s ys) n ≡ length ys
 sum_counts n [] a = sum_zero n
 sum_counts n (y ∷ ys) a =
     let r = sum_counts n ys a.1 in

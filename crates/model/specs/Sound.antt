@@ -1,6 +1,6 @@
 -- What the cells of a table mean.
 use Rattle.std.specs.Prelude.{◌≡◌, ℕ, ◌+◌, ◌-◌, ◌<◌, ◌≤◌, cond, ◌≢◌, List, [], ◌∷◌, length, None, Option, ◌==◌}
-use Rattle.std.specs.List.{slice_get, AllByRecursion as All}
+use Rattle.std.specs.List.{slice_get, AllByRecursion}
 use Rattle.rows.specs.declared.cell.FreeListEntry.{FreeListEntry}
 use Rattle.containers.specs.Queues.{Backed, contents}
 use Rattle.model.specs.Counts.{sum_to, same, count}
@@ -42,7 +42,7 @@ pub record Sound {V : Type 0} (l : Layout V) (ks : List ℕ) : Type 0 where
   pub loose : (k : ℕ) → k < capacity l → slot_at l.index k ≢ nil → link_at l.links k ≡ unlinked
   -- each index cell is nil or a slot; each number that waits is a slot; each slot belongs to one key or waits once
   pub slotted : (k : ℕ) → k < capacity l → slot_at l.index k ≢ nil → slot_at l.index k < capacity l
-  pub queued : All (λ s. s < capacity l) (contents l.slots)
+  pub queued : AllByRecursion (λ s. s < capacity l) (contents l.slots)
   pub shared : (s : ℕ) → s < capacity l → sum_to (λ k. same s (slot_at l.index k)) (capacity l) + count s (contents l.slots) ≡ 1
   -- the length counts the holding keys
   pub counted : l.len ≡ sum_to (holds l.index) (capacity l)
@@ -65,7 +65,7 @@ pub record Means {V : Type 0} (l : Layout V) (t : Table V) : Type 0 where
   pub loose : (k : ℕ) → k < capacity l → slot_at l.index k ≢ nil → link_at l.links k ≡ unlinked
   -- each index cell is nil or a slot; each number that waits is a slot; each slot belongs to one key or waits once
   pub slotted : (k : ℕ) → k < capacity l → slot_at l.index k ≢ nil → slot_at l.index k < capacity l
-  pub queued : All (λ s. s < capacity l) (contents l.slots)
+  pub queued : AllByRecursion (λ s. s < capacity l) (contents l.slots)
   pub shared : (s : ℕ) → s < capacity l → sum_to (λ k. same s (slot_at l.index k)) (capacity l) + count s (contents l.slots) ≡ 1
   -- the length counts the holding keys
   pub counted : l.len ≡ sum_to (holds l.index) (capacity l)

@@ -1,12 +1,12 @@
 // The table of worked runs.
 ghost use Rattle.std.specs.Prelude.{◌≡◌, length};
-ghost use Rattle.std.specs.List.{AllByRecursion as All};
+ghost use Rattle.std.specs.List.{AllByRecursion};
 ghost use Rattle.runs.specs.Runs.{Holds, runs};
 
 // How many worked runs there are; each of them holds.
 pub fn worked_runs() -> usize
     ensures count { result ≡ length runs }
-    ensures hold { All Holds runs }
+    ensures hold { AllByRecursion Holds runs }
 {
     8
 }
