@@ -4,7 +4,7 @@ use lib.ListN.{length, take, drop}
 use Rattle.model.specs.Fresh.{least, bare}
 use Rattle.model.specs.Layouts.{capacity}
 use Rattle.model.specs.Tables.{fresh}
-use Rattle.cells.specs.Laid.{laid}
+use Rattle.slotmap.specs.Laid.{laid}
 use Rattle.history.specs.Calls.{cells_after_all}
 use Rattle.history.proofs.Made.{all_answer}
 use Rattle.history.proofs.Reached.{reached_fresh}
