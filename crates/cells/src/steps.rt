@@ -265,7 +265,7 @@ impl<X: Row<Item = u32>, L: Row<Item = FreeListEntry>, D: Row, Q: Row<Item = u32
             &mut self.idx_to_data,
             &mut self.idx_to_data_free_list,
             &mut self.data,
-            &mut self.data_next_free_index.row,
+            &mut self.data_next_free_index,
             registers,
         )
     }

@@ -1,5 +1,5 @@
 // A queue over any row.
-ghost use Rattle.std.specs.Prelude.{◌≡◌, min, false, [], ◌∷◌, ◌++◌, length, drop, is_ok, if◌then◌else◌, Ok, ◌==◌};
+ghost use Rattle.std.specs.Prelude.{◌≡◌, ℕ, min, false, [], ◌∷◌, ◌++◌, length, drop, is_ok, if◌then◌else◌, Ok, ◌==◌};
 ghost use Rattle.std.specs.List.{slice_get};
 ghost use Rattle.std.specs.Option.{ok_or};
 ghost use Rattle.refusal.specs.declared.Refusal.TheVariants.{PlacePastLength};
@@ -14,7 +14,7 @@ use rows::Row;
 // First in, first out, round a ring of places.
 #[derive(Drop)]
 pub struct MetaQueue<R: Row> {
-    pub row: R,
+    row: R,
     position: Position,
 }
 
@@ -227,5 +227,33 @@ impl<R: Row> MetaQueue<R> {
         self.row.write(place, value)?;
         self.position = self.position.popped().pushed();
         Ok(Some(oldest))
+    }
+}
+
+// All cells of the row below, whatever the position: so that what a queue stands on can be looked
+// at. No call of these moves the position.
+impl<R: Row> Row for MetaQueue<R> {
+    type Item = R::Item;
+
+    ghost cells = { λ q. R.Row.cells q.row };
+
+    ghost Outside = { ℕ × ℕ × ℕ × R.Row.Outside };
+
+    ghost outside = { λ q. (q.position.capacity, q.position.start, q.position.len, R.Row.outside q.row) };
+
+    ghost Stored = { ℕ × ℕ × ℕ × R.Row.Stored };
+
+    ghost stored = { λ q. (q.position.capacity, q.position.start, q.position.len, R.Row.stored q.row) };
+
+    fn count(&mut self) -> usize {
+        self.row.count()
+    }
+
+    fn read(&mut self, place: usize) -> Result<R::Item, Refusal> {
+        self.row.read(place)
+    }
+
+    fn write(&mut self, place: usize, value: R::Item) -> Result<(), Refusal> {
+        self.row.write(place, value)
     }
 }
