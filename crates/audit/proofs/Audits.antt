@@ -7,11 +7,9 @@ use Rattle.containers.specs.Queues.{QueueState, Backed, contents, place_of}
 use Rattle.containers.proofs.Rounds.{length_contents, nth_contents}
 use Rattle.model.specs.Counts.{sum_to, same, count}
 use Rattle.model.specs.Layouts.{Layout, capacity, nil, slot_at}
-use Rattle.model.specs.Sound.{vacant, holds, cell, Sound, Means, Stands}
-use Rattle.model.specs.Tables.{Table}
+use Rattle.model.specs.Sound.{vacant, holds, stored_table, Stands}
 use Rattle.model.proofs.Sums.{same_yes, same_no, sum_alike, sum_add, sum_ones, sum_counts}
 use Rattle.model.proofs.FreeLists.{linked_below}
-use Rattle.model.proofs.Sounds.{means_of}
 use Rattle.model.proofs.Refines.{owned_sum, split_sum, shared_out}
 use Rattle.audit.specs.Parts.{Sized, Listed, Loose, bit, given, ring, Apart, Marked, Shared}
 use Rattle.audit.proofs.Calls.{when_like}
@@ -108,6 +106,7 @@ module _ {V : Type 0} (l : Layout V) where
       let holding : sum_to A C ≡ sum_to (holds xs) C = owned_sum xs C z.small h.slotted in (
         ks,
         record {
+          size = refl;
           small = z.small;
           indexes = z.indexes;
           linked = z.linked;
@@ -131,15 +130,9 @@ module _ {V : Type 0} (l : Layout V) where
               sum_tight (λ s. A s + B s) (λ _. 1) C h.apart
               (omega (arith, sum_add A B C, holding, waiting, h.counted, z.total, z.within, sum_ones (λ _. 1) C (λ _ _. refl)));
           counted = h.counted;
+          valued = λ _ _. refl;
         },
       )
-
-  -- a table that the cells mean
-  abbrev table_of : List ℕ → Table V
-  table_of ks = record { capacity = capacity l; held = cell l.index l.values; free = ks }
-
-  stored_means : (ks : List ℕ) → Sound l ks → Means l (table_of ks)
-  stored_means ks h = means_of l (table_of ks) refl h (λ _ _. refl)
 
   pub stands_sized : Stands l → Sized l
   stands_sized (ks, h) =
@@ -151,7 +144,7 @@ module _ {V : Type 0} (l : Layout V) where
         backed = h.backed;
         begins = h.begins;
         within = h.within;
-        total = omega (arith, shared_out l (table_of ks) (stored_means ks h));
+        total = omega (arith, shared_out l (stored_table l ks) h);
       }
 
   pub stands_listed : Stands l → Listed l.index l.links (capacity l) l.head l.slots.len
@@ -167,7 +160,7 @@ module _ {V : Type 0} (l : Layout V) where
             (λ (e : slot_at xs k ≡ nil → ⊥).
             absurd (omega (arith, h.keys k (linked_below l.links C nil l.head ks h.free k some), same_no (slot_at xs k) nil e)))
             (cases_eq (slot_at xs k) nil)),
-        omega (arith, sum_counts C ks (linked_all l.links C nil l.head ks h.free), sum_alike (λ k. count k ks) (vacant xs) C h.keys, split_sum xs C, h.counted, shared_out l (table_of ks) (stored_means ks h)),
+        omega (arith, sum_counts C ks (linked_all l.links C nil l.head ks h.free), sum_alike (λ k. count k ks) (vacant xs) C h.keys, split_sum xs C, h.counted, shared_out l (stored_table l ks) h),
       )
 
   stands_shared : Stands l → Shared l.index l.slots l.len

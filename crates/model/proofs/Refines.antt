@@ -43,17 +43,19 @@ cell_alike xs ys vs ws k e n =
     cell_some xs vs k q ∙ sym (n q) ∙ ap (slice_get ws) (sym e) ∙ sym (cell_some ys ws k (λ r. q (sym e ∙ r))))
     (cases_eq (slot_at xs k) nil)
 
--- the index cells, slot by slot and key by key
-pub owned_sum : (xs : List ℕ) (C : ℕ) → C ≤ 65535 → ((k : ℕ) → k < C → slot_at xs k ≢ nil → slot_at xs k < C)
-    → sum_to (λ s. sum_to (λ k. same s (slot_at xs k)) C) C ≡ sum_to (holds xs) C
-owned_sum xs C small slotted =
-    sum_swap (λ s k. same s (slot_at xs k)) C C
-    ∙ sum_alike _ _ C
-    (λ k b.
+-- a key that holds has one slot, and a vacant one has none
+owner_sum : (xs : List ℕ) (C : ℕ) → C ≤ 65535 → ((k : ℕ) → k < C → slot_at xs k ≢ nil → slot_at xs k < C)
+    → (k : ℕ) → k < C → sum_to (λ s. same s (slot_at xs k)) C ≡ holds xs k
+owner_sum xs C small slotted k b =
     ⊎_elim
     (λ (e : slot_at xs k ≡ nil). sum_none (slot_at xs k) C (omega arith) ∙ sym (holds_no xs k e))
     (λ (e : slot_at xs k ≡ nil → ⊥). sum_once (slot_at xs k) C (slotted k b e) ∙ sym (holds_yes xs k e))
-    (cases_eq (slot_at xs k) nil))
+    (cases_eq (slot_at xs k) nil)
+
+-- the index cells, slot by slot and key by key
+pub owned_sum : (xs : List ℕ) (C : ℕ) → C ≤ 65535 → ((k : ℕ) → k < C → slot_at xs k ≢ nil → slot_at xs k < C)
+    → sum_to (λ s. sum_to (λ k. same s (slot_at xs k)) C) C ≡ sum_to (holds xs) C
+owned_sum xs C small slotted = sum_swap (λ s k. same s (slot_at xs k)) C C ∙ sum_alike _ _ C (owner_sum xs C small slotted)
 
 -- each key holds or is vacant
 pub split_sum : (xs : List ℕ) (C : ℕ) → sum_to (holds xs) C + sum_to (vacant xs) C ≡ C

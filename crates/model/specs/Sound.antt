@@ -24,29 +24,6 @@ holds xs k = cond (slot_at xs k == nil) 0 1
 abbrev pub cell : {V : Type 0} → List ℕ → List V → ℕ → Option V
 cell xs vs k = cond (slot_at xs k == nil) None (slice_get vs (slot_at xs k))
 
--- The cells l stand: they are those of a table whose free list is ks, whatever it holds.
-pub record Sound {V : Type 0} (l : Layout V) (ks : List ℕ) : Type 0 where
-  -- the capacity is small enough, and each row has a cell for each key and slot
-  pub small : capacity l ≤ 65535
-  pub indexes : capacity l ≤ length l.index
-  pub linked : capacity l ≤ length l.links
-  pub stores : capacity l ≤ length l.values
-  pub backed : Backed l.slots
-  -- the queue's position is legal
-  pub begins : l.slots.start ≤ capacity l - 1
-  pub within : l.slots.len ≤ capacity l
-  -- the free list reads alike along its links both ways; each key is vacant and stands in it once, or holds and
-  -- stands nowhere in it; a holding key has no links
-  pub free : Linked l.links (capacity l) nil l.head ks
-  pub keys : (k : ℕ) → k < capacity l → count k ks ≡ vacant l.index k
-  pub loose : (k : ℕ) → k < capacity l → slot_at l.index k ≢ nil → link_at l.links k ≡ unlinked
-  -- each index cell is nil or a slot; each number that waits is a slot; each slot belongs to one key or waits once
-  pub slotted : (k : ℕ) → k < capacity l → slot_at l.index k ≢ nil → slot_at l.index k < capacity l
-  pub queued : AllByRecursion (λ s. s < capacity l) (contents l.slots)
-  pub shared : (s : ℕ) → s < capacity l → sum_to (λ k. same s (slot_at l.index k)) (capacity l) + count s (contents l.slots) ≡ 1
-  -- the length counts the holding keys
-  pub counted : l.len ≡ sum_to (holds l.index) (capacity l)
-
 -- the cells l are those of the table t
 pub record Means {V : Type 0} (l : Layout V) (t : Table V) : Type 0 where
   pub size : t.capacity ≡ capacity l
@@ -79,6 +56,14 @@ Follows {V} l r l' answer after = (t : Table V) → Means l t → (r ≡ answer 
 -- A look at the cells l that answered r is the look at the table that they mean.
 abbrev pub Tells : {V A : Type 0} → Layout V → A → (Table V → A) → Type 0
 Tells {V} l r answer = (t : Table V) → Means l t → r ≡ answer t
+
+-- the table that the cells l store, if its free list is ks
+abbrev pub stored_table : {V : Type 0} → Layout V → List ℕ → Table V
+stored_table l ks = record { capacity = capacity l; held = cell l.index l.values; free = ks }
+
+-- The cells l are sound, with free list ks: they are those of the table that they store.
+abbrev pub Sound : {V : Type 0} → Layout V → List ℕ → Type 0
+Sound l ks = Means l (stored_table l ks)
 
 -- The cells l stand the audit: they are sound, with the free list that one meets from the head.
 abbrev pub Stands : {V : Type 0} → Layout V → Type 0
