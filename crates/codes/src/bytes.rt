@@ -26,13 +26,6 @@ pub trait ByteArray: Copy {
         ensures { list self.new ≡ slice_set (list self.old) place byte };
 }
 
-// How many bytes there are.
-fn count(bytes: &[u8]) -> usize
-    ensures { result ≡ length bytes.now }
-{
-    bytes.len()
-}
-
 impl<const N: usize> ByteArray for [u8; N] {
     ghost list = { λ bytes. bytes };
 
@@ -47,11 +40,11 @@ impl<const N: usize> ByteArray for [u8; N] {
     }
 
     fn at(&self, place: usize) -> u8 {
-        if place < count(self) { self[place] } else { 0 }
+        self.get(place).copied().unwrap_or(0)
     }
 
     fn put(&mut self, place: usize, byte: u8) {
-        if place < count(self) {
+        if place < self.len() {
             self[place] = byte;
         }
     }

@@ -26,7 +26,7 @@ fn whole<K: Coded, B: Row<Item = u8>>(bytes: &mut B) -> usize
     ensures untouched { B.Row.stored bytes.new ≡ B.Row.stored bytes.old }
     ensures beside { B.Row.outside bytes.new ≡ B.Row.outside bytes.old }
 {
-    bytes.count() / K::width() as usize
+    bytes.count() / usize::from(K::width())
 }
 
 // The string of bytes that begins at `at`.
@@ -99,7 +99,7 @@ impl<K: Coded, B: Row<Item = u8>> Row for PackedRow<K, B> {
 
     fn read(&mut self, place: usize) -> Result<K, Refusal> {
         if place < whole::<K, B>(&mut self.bytes) {
-            let at = place * K::width() as usize;
+            let at = place * usize::from(K::width());
             Ok(K::decode(gather(&mut self.bytes, at)))
         } else {
             Err(Refusal::NoPlace)
@@ -116,7 +116,7 @@ impl<K: Coded, B: Row<Item = u8>> Row for PackedRow<K, B> {
         ensures bytes { B.Row.cells self.new.bytes ≡ (if is_ok result then paste (B.Row.cells self.old.bytes) (place * K.Bytes.ByteArray.size) (K.Coded.bytes value) K.Bytes.ByteArray.size else B.Row.cells self.old.bytes) }
     {
         if place < whole::<K, B>(&mut self.bytes) {
-            let at = place * K::width() as usize;
+            let at = place * usize::from(K::width());
             scatter(&mut self.bytes, at, value.encode());
             Ok(())
         } else {

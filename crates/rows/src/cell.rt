@@ -9,3 +9,9 @@ pub struct FreeListEntry {
     pub previous: u32,
     pub next: u32,
 }
+
+// The link of a key that is not in the free list.
+pub const NO_LINK: FreeListEntry = FreeListEntry {
+    previous: NONE,
+    next: NONE,
+};

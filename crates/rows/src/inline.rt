@@ -2,19 +2,13 @@
 ghost use Rattle.std.specs.Prelude.{◌≡◌, List, length, replicate};
 
 use crate::row::Row;
+use crate::slice::{element, store};
 use refusal::Refusal;
 
 // Sixty-four cells of any plain kind.
 #[derive(Clone, Copy)]
 pub struct InlineRow<T> {
     cells: [T; 64],
-}
-
-// How many cells there are.
-fn size<T>(cells: &[T]) -> usize
-    ensures { result ≡ length cells.now }
-{
-    cells.len()
 }
 
 impl<T: Copy> InlineRow<T> {
@@ -47,23 +41,14 @@ impl<T: Copy> Row for InlineRow<T> {
     ghost stored = { λ s. s.cells };
 
     fn count(&mut self) -> usize {
-        size(&self.cells)
+        self.cells.len()
     }
 
     fn read(&mut self, place: usize) -> Result<T, Refusal> {
-        if place < size(&self.cells) {
-            Ok(self.cells[place])
-        } else {
-            Err(Refusal::NoPlace)
-        }
+        element(&mut self.cells, place)
     }
 
     fn write(&mut self, place: usize, value: T) -> Result<(), Refusal> {
-        if place < size(&self.cells) {
-            self.cells[place] = value;
-            Ok(())
-        } else {
-            Err(Refusal::NoPlace)
-        }
+        store(&mut self.cells, place, value)
     }
 }

@@ -7,7 +7,7 @@ mod row;
 mod slice;
 mod window;
 
-pub use cell::{FreeListEntry, NONE};
+pub use cell::{FreeListEntry, NO_LINK, NONE};
 pub use inline::InlineRow;
 pub use row::Row;
 pub use slice::SliceRow;

@@ -12,38 +12,25 @@ pub struct SliceRow<'a, T> {
     slice: &'a mut [T],
 }
 
-// How many elements there are.
-fn size<T>(slice: &mut [T]) -> usize
-    ensures value { result ≡ length slice.old }
-    ensures same { slice.new ≡ slice.old }
-{
-    slice.len()
-}
-
 // The element at `place`.
-fn element<T: Copy>(slice: &mut [T], place: usize) -> Result<T, Refusal>
+pub(crate) fn element<T: Copy>(slice: &mut [T], place: usize) -> Result<T, Refusal>
     ensures value { result ≡ read_at slice.old place }
     ensures same { slice.new ≡ slice.old }
 {
-    if place < slice.len() {
-        Ok(slice[place])
-    } else {
-        Err(Refusal::NoPlace)
-    }
+    slice.get(place).copied().ok_or(Refusal::NoPlace)
 }
 
 // Stores `value` in the element at `place`.
-fn store<T: Copy>(slice: &mut [T], place: usize, value: T) -> Result<(), Refusal>
+pub(crate) fn store<T: Copy>(slice: &mut [T], place: usize, value: T) -> Result<(), Refusal>
     ensures value { result ≡ write_at slice.old place }
     ensures after { slice.new ≡ slice_set slice.old place value }
     ensures kept { is_ok result ≡ false → slice.new ≡ slice.old }
 {
-    if place < slice.len() {
-        slice[place] = value;
-        Ok(())
-    } else {
-        Err(Refusal::NoPlace)
+    if place >= slice.len() {
+        return Err(Refusal::NoPlace);
     }
+    slice[place] = value;
+    Ok(())
 }
 
 impl<'a, T> SliceRow<'a, T> {
@@ -80,7 +67,7 @@ impl<'a, T: Copy> Row for SliceRow<'a, T> {
     ghost stored = { λ s. (s.slice.ghost_name, s.slice.now) };
 
     fn count(&mut self) -> usize {
-        size(self.slice)
+        self.slice.len()
     }
 
     fn read(&mut self, place: usize) -> Result<T, Refusal> {

@@ -8,13 +8,13 @@ use Rattle.codes.proofs.packed.PackedRowRow.read.Goals as goal
 pub overflow_mul-at : goal.overflow_mul-at
 overflow_mul-at g c =
     let fits = group_fits (length (g.B.Row.cells c.args.self.now.bytes)) g.K.Bytes.ByteArray.size c.args.place c.whole.ensures.some (omega arith) in
-    omega (arith, ap (λ w. c.args.place * w) c.width.ensures.value)
+    omega (arith, ap (λ w. c.args.place * w) (c.from.ensures ∙ c.width.ensures.value))
 
 pub gather-requires : goal.gather-requires
 gather-requires g c =
     let fits = group_fits (length (g.B.Row.cells c.args.self.now.bytes)) g.K.Bytes.ByteArray.size c.args.place c.whole.ensures.some (omega arith) in
     let same = ap length c.whole.ensures.same in
-    (omega (arith, ap (λ w. c.args.place * w) c.width.ensures.value), omega arith)
+    (omega (arith, ap (λ w. c.args.place * w) (c.from.ensures ∙ c.width.ensures.value)), omega arith)
 
 pub returns-then-place-whole : goal.returns-then-place-whole
 returns-then-place-whole g c =
@@ -23,7 +23,7 @@ returns-then-place-whole g c =
     let item = g.K.Coded.item in
     let some = c.whole.ensures.some in
     let kept = c.gather.ensures.same ∙ c.whole.ensures.same in
-    let string = c.gather.ensures.value ∙ ap (λ at. window at w (g.B.Row.cells c.whole.new.bytes)) (ap (λ n. c.args.place * n) c.width.ensures.value) ∙ ap (window (c.args.place * w) w) c.whole.ensures.same in
+    let string = c.gather.ensures.value ∙ ap (λ at. window at w (g.B.Row.cells c.whole.new.bytes)) (ap (λ n. c.args.place * n) (c.from.ensures ∙ c.width.ensures.value)) ∙ ap (window (c.args.place * w) w) c.whole.ensures.same in
     record {
       value = ap Ok (c.decode.ensures ∙ ap item string) ∙ packed_read w item some xs c.args.place (omega arith);
       same = ap (packed w item) kept;

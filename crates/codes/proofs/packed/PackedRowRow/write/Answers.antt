@@ -9,13 +9,13 @@ use Rattle.codes.proofs.packed.PackedRowRow.write.Goals as goal
 pub overflow_mul-at : goal.overflow_mul-at
 overflow_mul-at g c =
     let fits = group_fits (length (g.B.Row.cells c.args.self.now.bytes)) g.K.Bytes.ByteArray.size c.args.place c.whole.ensures.some (omega arith) in
-    omega (arith, ap (λ w. c.args.place * w) c.width.ensures.value)
+    omega (arith, ap (λ w. c.args.place * w) (c.from.ensures ∙ c.width.ensures.value))
 
 pub scatter-requires : goal.scatter-requires
 scatter-requires g c =
     let fits = group_fits (length (g.B.Row.cells c.args.self.now.bytes)) g.K.Bytes.ByteArray.size c.args.place c.whole.ensures.some (omega arith) in
     let same = ap length c.whole.ensures.same in
-    (omega (arith, ap (λ w. c.args.place * w) c.width.ensures.value), (omega arith, ap length c.encode.ensures.value ∙ c.encode.ensures.width))
+    (omega (arith, ap (λ w. c.args.place * w) (c.from.ensures ∙ c.width.ensures.value)), (omega arith, ap length c.encode.ensures.value ∙ c.encode.ensures.width))
 
 pub returns-then-place-whole : goal.returns-then-place-whole
 returns-then-place-whole g c =
@@ -28,7 +28,7 @@ returns-then-place-whole g c =
     let count = length_packed w item some xs in
     let pasted =
     c.scatter.ensures.after
-    ∙ ap (λ at. paste (g.B.Row.cells c.whole.new.bytes) at (g.K.Bytes.ByteArray.list c.encode.result) w) (ap (λ n. c.args.place * n) c.width.ensures.value)
+    ∙ ap (λ at. paste (g.B.Row.cells c.whole.new.bytes) at (g.K.Bytes.ByteArray.list c.encode.result) w) (ap (λ n. c.args.place * n) (c.from.ensures ∙ c.width.ensures.value))
     ∙ ap (λ ys. paste ys (c.args.place * w) (g.K.Bytes.ByteArray.list c.encode.result) w) c.whole.ensures.same
     ∙ ap (λ s. paste xs (c.args.place * w) s w) c.encode.ensures.value in
     record {
