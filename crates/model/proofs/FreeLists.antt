@@ -4,7 +4,7 @@ use Rattle.std.proofs.lemmas.List.{get_or-set_same, get_or-set_other, set_past}
 use Rattle.std.proofs.lemmas.Bool.{cases_eq, cases_lt, eq-eqb, ne_eqb, cond-true, cond-false, cond_both}
 use Rattle.rows.specs.declared.cell.FreeListEntry.{FreeListEntry}
 use Rattle.model.specs.Counts.{count, without}
-use Rattle.model.specs.Layouts.{nil, unlinked, link_at, with_next, with_previous, cut_out, head_without, put_first}
+use Rattle.model.specs.Layouts.{nil, unlinked, link_at, followed, preceded, relinked, with_next, with_previous, cut_out, head_without, put_first}
 use Rattle.model.specs.Sound.{Linked}
 use Rattle.model.proofs.Sums.{same_yes, same_no, without_later}
 
@@ -179,78 +179,49 @@ module _ (ls ms : List FreeListEntry) (C : ℕ) (small : C ≤ 65535) (k a b : �
       (cut_linked ea eb x (next_at ls x) xs lx (once_rest x xs o) (once_first x xs o) c.3))
       (cases_eq k x)
 
--- The cells after with_next and with_previous: one field of one cell changes.
-same_link : (ls : List FreeListEntry) (p j : ℕ) (x : FreeListEntry) (F : FreeListEntry → ℕ) → F x ≡ F (link_at ls p) → F (link_at (set ls p x) j) ≡ F (link_at ls j)
-same_link ls p j x F e =
-    ⊎_elim
-    (λ (q : j ≡ p).
-    ⊎_elim
-    (λ (l : p < length ls).
-    subst (λ n. F (link_at (set ls p x) n) ≡ F (link_at ls n)) (sym q) (ap F (get_or-set_same ls p x unlinked l) ∙ e))
-    (λ (l : length ls ≤ p). ap (λ n. F (link_at n j)) (set_past ls p x l))
-    (cases_lt p (length ls)))
-    (λ (q : j ≡ p → ⊥). ap F (get_or-set_other ls p j x unlinked q))
-    (cases_eq j p)
+-- The cells after the link of key p is changed: one cell changes, and no field that the change keeps.
+module _ (change : FreeListEntry → FreeListEntry) (ls : List FreeListEntry) (p : ℕ) where
+  -- what holds without the change and with it
+  either : (P : List FreeListEntry → Type 0) → P ls → P (set ls p (change (link_at ls p))) → P (relinked change ls p)
+  either P without with = cond_both (eqb p nil) ls (set ls p (change (link_at ls p))) P (λ _. without) (λ _. with)
 
-pub with_next_previous : (ls : List FreeListEntry) (p n j : ℕ) → previous_at (with_next ls p n) j ≡ previous_at ls j
-with_next_previous ls p n j =
-    cond_both (eqb p nil) ls (set ls p (record { previous = (link_at ls p).previous; next = n }))
-    (λ ms. previous_at ms j ≡ previous_at ls j)
-    (λ _. refl)
-    (λ _. same_link ls p j (record { previous = (link_at ls p).previous; next = n }) (λ q. q.previous) refl)
+  -- a field of any cell, which the change keeps
+  pub relinked_field : (F : FreeListEntry → ℕ) → F (change (link_at ls p)) ≡ F (link_at ls p) → (j : ℕ) → F (link_at (relinked change ls p) j) ≡ F (link_at ls j)
+  relinked_field F e j =
+      either (λ ms. F (link_at ms j) ≡ F (link_at ls j)) refl
+      (⊎_elim
+      (λ (q : j ≡ p).
+      ⊎_elim
+      (λ (l : p < length ls).
+      subst (λ n. F (link_at (set ls p (change (link_at ls p))) n) ≡ F (link_at ls n)) (sym q) (ap F (get_or-set_same ls p (change (link_at ls p)) unlinked l) ∙ e))
+      (λ (l : length ls ≤ p). ap (λ n. F (link_at n j)) (set_past ls p (change (link_at ls p)) l))
+      (cases_lt p (length ls)))
+      (λ (q : j ≡ p → ⊥). ap F (get_or-set_other ls p j (change (link_at ls p)) unlinked q))
+      (cases_eq j p))
 
-pub with_previous_next : (ls : List FreeListEntry) (p q j : ℕ) → next_at (with_previous ls p q) j ≡ next_at ls j
-with_previous_next ls p q j =
-    cond_both (eqb p nil) ls (set ls p (record { previous = q; next = (link_at ls p).next }))
-    (λ ms. next_at ms j ≡ next_at ls j)
-    (λ _. refl)
-    (λ _. same_link ls p j (record { previous = q; next = (link_at ls p).next }) (λ q. q.next) refl)
+  pub relinked_other : (j : ℕ) → j ≢ p → link_at (relinked change ls p) j ≡ link_at ls j
+  relinked_other j ne = either (λ ms. link_at ms j ≡ link_at ls j) refl (get_or-set_other ls p j (change (link_at ls p)) unlinked ne)
 
-pub with_next_other : (ls : List FreeListEntry) (p n j : ℕ) → j ≢ p → link_at (with_next ls p n) j ≡ link_at ls j
-with_next_other ls p n j ne =
-    cond_both (eqb p nil) ls (set ls p (record { previous = (link_at ls p).previous; next = n }))
-    (λ ms. link_at ms j ≡ link_at ls j)
-    (λ _. refl)
-    (λ _. get_or-set_other ls p j (record { previous = (link_at ls p).previous; next = n }) unlinked ne)
+  pub relinked_length : length (relinked change ls p) ≡ length ls
+  relinked_length = either (λ ms. length ms ≡ length ls) refl (length-set ls p (change (link_at ls p)))
 
-pub with_previous_other : (ls : List FreeListEntry) (p n j : ℕ) → j ≢ p → link_at (with_previous ls p n) j ≡ link_at ls j
-with_previous_other ls p n j ne =
-    cond_both (eqb p nil) ls (set ls p (record { previous = n; next = (link_at ls p).next }))
-    (λ ms. link_at ms j ≡ link_at ls j)
-    (λ _. refl)
-    (λ _. get_or-set_other ls p j (record { previous = n; next = (link_at ls p).next }) unlinked ne)
+  pub relinked_past : length ls ≤ p → relinked change ls p ≡ ls
+  relinked_past l = either (λ ms. ms ≡ ls) refl (set_past ls p (change (link_at ls p)) l)
 
-pub with_next_length : (ls : List FreeListEntry) (p n : ℕ) → length (with_next ls p n) ≡ length ls
-with_next_length ls p n =
-    cond_both (eqb p nil) ls (set ls p (record { previous = (link_at ls p).previous; next = n }))
-    (λ ms. length ms ≡ length ls)
-    (λ _. refl)
-    (λ _. length-set ls p (record { previous = (link_at ls p).previous; next = n }))
+  pub relinked_here : p ≢ nil → p < length ls → link_at (relinked change ls p) p ≡ change (link_at ls p)
+  relinked_here ne l =
+      let x = change (link_at ls p) in
+      ap (λ ms. link_at ms p) (cond-false (eqb p nil) ls (set ls p x) (ne_eqb p nil ne)) ∙ get_or-set_same ls p x unlinked l
 
-pub with_previous_length : (ls : List FreeListEntry) (p n : ℕ) → length (with_previous ls p n) ≡ length ls
-with_previous_length ls p n =
-    cond_both (eqb p nil) ls (set ls p (record { previous = n; next = (link_at ls p).next }))
-    (λ ms. length ms ≡ length ls)
-    (λ _. refl)
-    (λ _. length-set ls p (record { previous = n; next = (link_at ls p).next }))
-
-pub with_next_here : (ls : List FreeListEntry) (p n : ℕ) → p ≢ nil → p < length ls
-    → link_at (with_next ls p n) p ≡ record { previous = (link_at ls p).previous; next = n }
-with_next_here ls p n ne l =
-    let x : FreeListEntry = record { previous = (link_at ls p).previous; next = n } in
-    ap (λ ms. link_at ms p) (cond-false (eqb p nil) ls (set ls p x) (ne_eqb p nil ne)) ∙ get_or-set_same ls p x unlinked l
-
-pub with_previous_here : (ls : List FreeListEntry) (p q : ℕ) → p ≢ nil → p < length ls
-    → link_at (with_previous ls p q) p ≡ record { previous = q; next = (link_at ls p).next }
-with_previous_here ls p q ne l =
-    let x : FreeListEntry = record { previous = q; next = (link_at ls p).next } in
-    ap (λ ms. link_at ms p) (cond-false (eqb p nil) ls (set ls p x) (ne_eqb p nil ne)) ∙ get_or-set_same ls p x unlinked l
+  -- the change made to the link that was read
+  pub relinked_read : (e : FreeListEntry) → p ≢ nil → e ≡ link_at ls p → set ls p (change e) ≡ relinked change ls p
+  relinked_read e ne is = ap (λ q. set ls p (change q)) is ∙ sym (cond-false _ _ _ (ne_eqb p nil ne))
 
 pub cut_out_length : (ls : List FreeListEntry) (k : ℕ) (e : FreeListEntry) → length (cut_out ls k e) ≡ length ls
 cut_out_length ls k e =
     length-set (with_previous (with_next ls e.previous e.next) e.next e.previous) k unlinked
-    ∙ with_previous_length (with_next ls e.previous e.next) e.next e.previous
-    ∙ with_next_length ls e.previous e.next
+    ∙ relinked_length (preceded e.previous) (with_next ls e.previous e.next) e.next
+    ∙ relinked_length (followed e.next) ls e.previous
 
 pub cut_out_cuts : (ls : List FreeListEntry) (C : ℕ) → C ≤ 65535 → C ≤ length ls → (k : ℕ) (e : FreeListEntry)
     → Cut ls (cut_out ls k e) C k e.previous e.next
@@ -262,19 +233,19 @@ cut_out_cuts ls C small fits k e =
     record {
       other = λ j nk na.
           ap (λ q. q.next) (get_or-set_other l2 k j unlinked unlinked nk)
-          ∙ with_previous_next l1 b a j
-          ∙ ap (λ q. q.next) (with_next_other ls a b j na);
+          ∙ relinked_field (preceded a) l1 b (λ q. q.next) refl j
+          ∙ ap (λ q. q.next) (relinked_other (followed b) ls a j na);
       before = λ nk l.
           ap (λ q. q.next) (get_or-set_other l2 k a unlinked unlinked nk)
-          ∙ with_previous_next l1 b a a
-          ∙ ap (λ q. q.next) (with_next_here ls a b (omega arith) (omega arith));
+          ∙ relinked_field (preceded a) l1 b (λ q. q.next) refl a
+          ∙ ap (λ q. q.next) (relinked_here (followed b) ls a (omega arith) (omega arith));
       other_back = λ j nk nb.
           ap (λ q. q.previous) (get_or-set_other l2 k j unlinked unlinked nk)
-          ∙ ap (λ q. q.previous) (with_previous_other l1 b a j nb)
-          ∙ with_next_previous ls a b j;
+          ∙ ap (λ q. q.previous) (relinked_other (preceded a) l1 b j nb)
+          ∙ relinked_field (followed b) ls a (λ q. q.previous) refl j;
       after = λ nk l.
           ap (λ q. q.previous) (get_or-set_other l2 k b unlinked unlinked nk)
-          ∙ ap (λ q. q.previous) (with_previous_here l1 b a (omega arith) (omega (arith, with_next_length ls a b)));
+          ∙ ap (λ q. q.previous) (relinked_here (preceded a) l1 b (omega arith) (omega (arith, relinked_length (followed b) ls a)));
     }
 
 -- Key k, out of the free list.
@@ -302,7 +273,7 @@ linked_out ls C small fits k h ks l o c =
 
 pub put_first_length : (ls : List FreeListEntry) (h k : ℕ) → length (put_first ls h k) ≡ length ls
 put_first_length ls h k =
-    length-set (with_previous ls h k) k (record { previous = nil; next = h }) ∙ with_previous_length ls h k
+    length-set (with_previous ls h k) k (record { previous = nil; next = h }) ∙ relinked_length (preceded k) ls h
 
 -- the list behind k, once k stands in front of it
 linked_rest : (ls : List FreeListEntry) (C : ℕ) → C ≤ 65535 → C ≤ length ls → (k h : ℕ) (ks : List ℕ)
@@ -314,14 +285,14 @@ linked_rest ls C small fits k h (x ∷ xs) l z o c =
     let hk : h ≢ k = λ q. apart_first k x xs z (sym q ∙ c.0) in
     let e : link_at ms h ≡ record { previous = k; next = (link_at ls h).next } =
     get_or-set_other (with_previous ls h k) k h (record { previous = nil; next = h }) unlinked hk
-    ∙ with_previous_here ls h k (omega (arith, c.0, c.1)) (omega (arith, c.0, c.1)) in
+    ∙ relinked_here (preceded k) ls h (omega (arith, c.0, c.1)) (omega (arith, c.0, c.1)) in
     let e' : link_at ms x ≡ record { previous = k; next = (link_at ls x).next } =
     subst (λ n. link_at ms n ≡ record { previous = k; next = (link_at ls n).next }) c.0 e in
     let same_rest : (j : ℕ) → 0 < count j xs → link_at ms j ≡ link_at ls j = λ j n.
     let jk : j ≢ k = λ q. omega (arith, n, apart_rest k x xs z, ap (λ i. count i xs) q) in
     let jh : j ≢ h = λ q. omega (arith, n, once_first x xs o, ap (λ i. count i xs) (q ∙ c.0)) in
     get_or-set_other (with_previous ls h k) k j (record { previous = nil; next = h }) unlinked jk
-    ∙ with_previous_other ls h k j jh in
+    ∙ relinked_other (preceded k) ls h j jh in
     let r = linked_kept ls ms C x (next_at ls x) xs same_rest c.3 in
     (c.0, c.1, ap (λ q. q.previous) e', subst (λ n. Linked ms C x n xs) (sym (ap (λ q. q.next) e')) r)
 
@@ -333,7 +304,7 @@ linked_front ls C small fits k h ks l z o c =
     let ms = put_first ls h k in
     let e : link_at ms k ≡ record { previous = nil; next = h } =
     get_or-set_same (with_previous ls h k) k (record { previous = nil; next = h }) unlinked
-    (omega (arith, with_previous_length ls h k)) in
+    (omega (arith, relinked_length (preceded k) ls h)) in
     let r : Linked ms C k h ks = linked_rest ls C small fits k h ks l z o c in
     (refl, l, ap (λ q. q.previous) e, subst (λ n. Linked ms C k n ks) (sym (ap (λ q. q.next) e)) r)
 
@@ -343,31 +314,19 @@ pub cut_out_other : (ls : List FreeListEntry) (k : ℕ) (e : FreeListEntry) (j :
 cut_out_other ls k e j nk na nb =
     let l1 = with_next ls e.previous e.next in
     get_or-set_other (with_previous l1 e.next e.previous) k j unlinked unlinked nk
-    ∙ with_previous_other l1 e.next e.previous j nb
-    ∙ with_next_other ls e.previous e.next j na
+    ∙ relinked_other (preceded e.previous) l1 e.next j nb
+    ∙ relinked_other (followed e.next) ls e.previous j na
 
 pub put_first_other : (ls : List FreeListEntry) (h k j : ℕ) → j ≢ k → j ≢ h → link_at (put_first ls h k) j ≡ link_at ls j
 put_first_other ls h k j nk nh =
     get_or-set_other (with_previous ls h k) k j (record { previous = nil; next = h }) unlinked nk
-    ∙ with_previous_other ls h k j nh
+    ∙ relinked_other (preceded k) ls h j nh
 
 pub cut_out_here : (ls : List FreeListEntry) (k : ℕ) (e : FreeListEntry) → k < length ls → link_at (cut_out ls k e) k ≡ unlinked
 cut_out_here ls k e l =
     let l1 = with_next ls e.previous e.next in
     get_or-set_same (with_previous l1 e.next e.previous) k unlinked unlinked
-    (omega (arith, l, with_previous_length l1 e.next e.previous, with_next_length ls e.previous e.next))
-
-pub with_next_past : (ls : List FreeListEntry) (p n : ℕ) → length ls ≤ p → with_next ls p n ≡ ls
-with_next_past ls p n l =
-    cond_both (eqb p nil) ls (set ls p (record { previous = (link_at ls p).previous; next = n })) (λ ms. ms ≡ ls)
-    (λ _. refl)
-    (λ _. set_past ls p (record { previous = (link_at ls p).previous; next = n }) l)
-
-pub with_previous_past : (ls : List FreeListEntry) (p q : ℕ) → length ls ≤ p → with_previous ls p q ≡ ls
-with_previous_past ls p q l =
-    cond_both (eqb p nil) ls (set ls p (record { previous = q; next = (link_at ls p).next })) (λ ms. ms ≡ ls)
-    (λ _. refl)
-    (λ _. set_past ls p (record { previous = q; next = (link_at ls p).next }) l)
+    (omega (arith, l, relinked_length (preceded e.previous) l1 e.next, relinked_length (followed e.next) ls e.previous))
 
 -- the links and the head say which free list it is
 pub linked_unique : (ls : List FreeListEntry) (C : ℕ) → C ≤ 65535 → (p h : ℕ) (ks js : List ℕ) → Linked ls C p h ks → Linked ls C p h js → ks ≡ js
@@ -378,14 +337,3 @@ linked_unique ls C small p h (k ∷ ks) (j ∷ js) c d =
     let e : k ≡ j = sym c.0 ∙ d.0 in
     let d' : Linked ls C k (next_at ls k) js = subst (λ n. Linked ls C n (next_at ls n) js) (sym e) d.3 in
     ap (λ n. n ∷ ks) e ∙ ap (λ n. j ∷ n) (linked_unique ls C small k (next_at ls k) ks js c.3 d')
-
--- a field changed in the link that was read
-pub with_next_read : (ls : List FreeListEntry) (p n : ℕ) (e : FreeListEntry) → p ≢ nil → e ≡ link_at ls p
-    → set ls p (record { previous = e.previous; next = n }) ≡ with_next ls p n
-with_next_read ls p n e ne is =
-    ap (λ q. set ls p (record { previous = q.previous; next = n })) is ∙ sym (cond-false _ _ _ (ne_eqb p nil ne))
-
-pub with_previous_read : (ls : List FreeListEntry) (p q : ℕ) (e : FreeListEntry) → p ≢ nil → e ≡ link_at ls p
-    → set ls p (record { previous = q; next = e.next }) ≡ with_previous ls p q
-with_previous_read ls p q e ne is =
-    ap (λ x. set ls p (record { previous = q; next = x.next })) is ∙ sym (cond-false _ _ _ (ne_eqb p nil ne))

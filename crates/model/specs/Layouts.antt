@@ -41,12 +41,23 @@ slot_at xs k = slice_index_or xs k nil
 abbrev pub link_at : List FreeListEntry → ℕ → FreeListEntry
 link_at ls k = slice_index_or ls k unlinked
 
--- key p followed by n, key p preceded by q; nothing where p is nil
+-- a link with another next, with another previous
+abbrev pub followed : ℕ → FreeListEntry → FreeListEntry
+followed n e = record { previous = e.previous; next = n }
+
+abbrev pub preceded : ℕ → FreeListEntry → FreeListEntry
+preceded q e = record { previous = q; next = e.next }
+
+-- the link of key p changed; nothing where p is nil
+abbrev pub relinked : (FreeListEntry → FreeListEntry) → List FreeListEntry → ℕ → List FreeListEntry
+relinked change ls p = cond (p == nil) ls (slice_set ls p (change (link_at ls p)))
+
+-- key p followed by n, key p preceded by q
 abbrev pub with_next : List FreeListEntry → ℕ → ℕ → List FreeListEntry
-with_next ls p n = cond (p == nil) ls (slice_set ls p (record { previous = (link_at ls p).previous; next = n }))
+with_next ls p n = relinked (followed n) ls p
 
 abbrev pub with_previous : List FreeListEntry → ℕ → ℕ → List FreeListEntry
-with_previous ls p q = cond (p == nil) ls (slice_set ls p (record { previous = q; next = (link_at ls p).next }))
+with_previous ls p q = relinked (preceded q) ls p
 
 -- the links with key k, whose link is e, taken out
 abbrev pub cut_out : List FreeListEntry → ℕ → FreeListEntry → List FreeListEntry
