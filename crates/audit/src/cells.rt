@@ -9,8 +9,5 @@ pub(crate) fn cell_or<R: Row>(row: &mut R, place: u32, other: R::Item) -> R::Ite
     ensures value { result ≡ slice_index_or (R.Row.cells row.old) place other }
     ensures kept { Kept R.Row.cells R.Row.outside R.Row.stored row.old row.new }
 {
-    match row.read(place as usize) {
-        Ok(cell) => cell,
-        Err(_) => other,
-    }
+    row.read(place as usize).unwrap_or(other)
 }

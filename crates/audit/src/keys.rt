@@ -4,7 +4,7 @@ ghost use Rattle.audit.specs.Parts.{next_key, Listed, Loose};
 ghost use Rattle.audit.specs.Verdict.{Kept};
 
 use crate::cells::cell_or;
-use rows::{FreeListEntry, NONE, Row};
+use rows::{FreeListEntry, NO_LINK, NONE, Row};
 
 // The key after `key` in the free list; none where `key` is no vacant key of the table, or its
 // link does not say that `previous` is before it.
@@ -22,14 +22,7 @@ fn next_key<X: Row<Item = u32>, L: Row<Item = FreeListEntry>>(
     if key >= capacity {
         return None;
     }
-    let link = cell_or(
-        links,
-        key,
-        FreeListEntry {
-            previous: NONE,
-            next: NONE,
-        },
-    );
+    let link = cell_or(links, key, NO_LINK);
     if link.previous != previous {
         return None;
     }
@@ -77,15 +70,7 @@ pub(crate) fn holding_keys_are_loose<X: Row<Item = u32>, L: Row<Item = FreeListE
         if cell_or(index, key, NONE) == NONE {
             continue;
         }
-        let link = cell_or(
-            links,
-            key,
-            FreeListEntry {
-                previous: NONE,
-                next: NONE,
-            },
-        );
-        if link.previous != NONE || link.next != NONE {
+        if cell_or(links, key, NO_LINK) != NO_LINK {
             return false;
         }
     }

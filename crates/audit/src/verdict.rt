@@ -46,16 +46,10 @@ fn sizes_stand<X: Row<Item = u32>, L: Row<Item = FreeListEntry>, D: Row, Q: Row<
     if start > 0 && start >= capacity {
         return false;
     }
-    if !has_cells(index, capacity) {
-        return false;
-    }
-    if !has_cells(links, capacity) {
-        return false;
-    }
-    if !has_cells(values, capacity) {
-        return false;
-    }
-    has_cells(slots, capacity)
+    has_cells(index, capacity)
+        && has_cells(links, capacity)
+        && has_cells(values, capacity)
+        && has_cells(slots, capacity)
 }
 
 // Whether the cells and registers stand, by marks of which none is set.

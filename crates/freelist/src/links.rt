@@ -1,10 +1,10 @@
 // The free list, in the row of links.
 ghost use Rattle.std.specs.Prelude.{◌≡◌};
 ghost use Rattle.model.specs.Checks.{link_of, neighbour, claimable};
-ghost use Rattle.model.specs.Layouts.{with_next, with_previous, cut_out, put_first};
+ghost use Rattle.model.specs.Layouts.{relinked, cut_out, put_first};
 
 use refusal::Refusal;
-use rows::{FreeListEntry, NONE, Row};
+use rows::{FreeListEntry, NO_LINK, NONE, Row};
 
 // The link of `key`, which is one of `capacity` keys.
 pub fn link_of<L: Row<Item = FreeListEntry>>(
@@ -20,10 +20,7 @@ pub fn link_of<L: Row<Item = FreeListEntry>>(
     if key >= capacity {
         return Err(Refusal::AuditFailed);
     }
-    match links.read(key as usize) {
-        Ok(entry) => Ok(entry),
-        Err(_) => Err(Refusal::AuditFailed),
-    }
+    links.read(key as usize).or(Err(Refusal::AuditFailed))
 }
 
 // Sees that `key` can be relinked: it is none, or one of `capacity` keys.
@@ -40,7 +37,7 @@ pub fn check_neighbour<L: Row<Item = FreeListEntry>>(
     if key == NONE {
         return Ok(());
     }
-    let _ = link_of(links, capacity, key)?;
+    link_of(links, capacity, key)?;
     Ok(())
 }
 
@@ -61,31 +58,21 @@ pub fn check_claim<L: Row<Item = FreeListEntry>>(
     Ok(entry)
 }
 
-// `key` is followed by `next`.
-fn set_next<L: Row<Item = FreeListEntry>>(links: &mut L, key: u32, next: u32)
-    ensures after { L.Row.cells links.new ≡ with_next (L.Row.cells links.old) key next }
+// Changes the link of `key`, unless that is none.
+fn relink<L: Row<Item = FreeListEntry>, F: FnOnce(FreeListEntry) -> FreeListEntry>(
+    links: &mut L,
+    key: u32,
+    change: F,
+)
+    requires { F.IsAlwaysCallable change }
+    ensures after { (f : FreeListEntry → FreeListEntry) → ((e r : FreeListEntry) → F.post change e r → r ≡ f e) → L.Row.cells links.new ≡ relinked f (L.Row.cells links.old) key }
     ensures beside { L.Row.outside links.new ≡ L.Row.outside links.old }
 {
     if key == NONE {
         return;
     }
     if let Ok(entry) = links.read(key as usize) {
-        let previous = entry.previous;
-        let _ = links.write(key as usize, FreeListEntry { previous, next });
-    }
-}
-
-// `key` is preceded by `previous`.
-fn set_previous<L: Row<Item = FreeListEntry>>(links: &mut L, key: u32, previous: u32)
-    ensures after { L.Row.cells links.new ≡ with_previous (L.Row.cells links.old) key previous }
-    ensures beside { L.Row.outside links.new ≡ L.Row.outside links.old }
-{
-    if key == NONE {
-        return;
-    }
-    if let Ok(entry) = links.read(key as usize) {
-        let next = entry.next;
-        let _ = links.write(key as usize, FreeListEntry { previous, next });
+        let _ = links.write(key as usize, change(entry));
     }
 }
 
@@ -94,15 +81,10 @@ pub fn unlink<L: Row<Item = FreeListEntry>>(links: &mut L, key: u32, entry: Free
     ensures after { L.Row.cells links.new ≡ cut_out (L.Row.cells links.old) key entry }
     ensures beside { L.Row.outside links.new ≡ L.Row.outside links.old }
 {
-    set_next(links, entry.previous, entry.next);
-    set_previous(links, entry.next, entry.previous);
-    let _ = links.write(
-        key as usize,
-        FreeListEntry {
-            previous: NONE,
-            next: NONE,
-        },
-    );
+    let FreeListEntry { previous, next } = entry;
+    relink(links, previous, |link| FreeListEntry { next, ..link });
+    relink(links, next, |link| FreeListEntry { previous, ..link });
+    let _ = links.write(key as usize, NO_LINK);
 }
 
 // Puts `key` in front of the free list that begins at `head`.
@@ -110,12 +92,11 @@ pub fn link_first<L: Row<Item = FreeListEntry>>(links: &mut L, head: u32, key: u
     ensures after { L.Row.cells links.new ≡ put_first (L.Row.cells links.old) head key }
     ensures beside { L.Row.outside links.new ≡ L.Row.outside links.old }
 {
-    set_previous(links, head, key);
-    let _ = links.write(
-        key as usize,
-        FreeListEntry {
-            previous: NONE,
-            next: head,
-        },
-    );
+    let previous = key;
+    relink(links, head, |link| FreeListEntry { previous, ..link });
+    let first = FreeListEntry {
+        next: head,
+        ..NO_LINK
+    };
+    let _ = links.write(key as usize, first);
 }
