@@ -8,7 +8,7 @@ ghost use Rattle.history.specs.Promise.{Reached};
 ghost use Rattle.cells.specs.Laid.{laid};
 
 use crate::fresh::{at_most, clear_index, queue_all};
-use crate::slotmap::MetaSlotMap;
+use crate::slotmap::{MetaSlotMap, Rows};
 use containers::MetaQueue;
 use freelist::{first_key, link_all};
 use refusal::Refusal;
@@ -23,22 +23,21 @@ pub struct Plan {
 // The capacity of a table over four rows: the least of what is asked for, 65,535 and the counts.
 fn capacity_over<X: Row<Item = u32>, L: Row<Item = FreeListEntry>, D: Row, Q: Row<Item = u32>>(
     asked: u32,
-    index: &mut X,
-    links: &mut L,
-    values: &mut D,
-    slots: &mut Q,
+    rows: &mut Rows<X, L, D, Q>,
 ) -> u32
-    ensures value { result ≡ least asked (length (X.Row.cells index.old)) (length (L.Row.cells links.old)) (length (D.Row.cells values.old)) (length (Q.Row.cells slots.old)) }
-    ensures index { (X.Row.cells index.new ≡ X.Row.cells index.old) × ((X.Row.outside index.new ≡ X.Row.outside index.old) × (X.Row.stored index.new ≡ X.Row.stored index.old)) }
-    ensures links { (L.Row.cells links.new ≡ L.Row.cells links.old) × ((L.Row.outside links.new ≡ L.Row.outside links.old) × (L.Row.stored links.new ≡ L.Row.stored links.old)) }
-    ensures values { (D.Row.cells values.new ≡ D.Row.cells values.old) × ((D.Row.outside values.new ≡ D.Row.outside values.old) × (D.Row.stored values.new ≡ D.Row.stored values.old)) }
-    ensures slots { (Q.Row.cells slots.new ≡ Q.Row.cells slots.old) × ((Q.Row.outside slots.new ≡ Q.Row.outside slots.old) × (Q.Row.stored slots.new ≡ Q.Row.stored slots.old)) }
+    ensures value { result ≡ least asked (length (X.Row.cells rows.old.index)) (length (L.Row.cells rows.old.links)) (length (D.Row.cells rows.old.values)) (length (Q.Row.cells rows.old.slots)) }
+    ensures index { (X.Row.cells rows.new.index ≡ X.Row.cells rows.old.index) × ((X.Row.outside rows.new.index ≡ X.Row.outside rows.old.index) × (X.Row.stored rows.new.index ≡ X.Row.stored rows.old.index)) }
+    ensures links { (L.Row.cells rows.new.links ≡ L.Row.cells rows.old.links) × ((L.Row.outside rows.new.links ≡ L.Row.outside rows.old.links) × (L.Row.stored rows.new.links ≡ L.Row.stored rows.old.links)) }
+    ensures values { (D.Row.cells rows.new.values ≡ D.Row.cells rows.old.values) × ((D.Row.outside rows.new.values ≡ D.Row.outside rows.old.values) × (D.Row.stored rows.new.values ≡ D.Row.stored rows.old.values)) }
+    ensures slots { (Q.Row.cells rows.new.slots ≡ Q.Row.cells rows.old.slots) × ((Q.Row.outside rows.new.slots ≡ Q.Row.outside rows.old.slots) × (Q.Row.stored rows.new.slots ≡ Q.Row.stored rows.old.slots)) }
 {
-    let capacity = at_most(asked, 65535);
-    let capacity = at_most(capacity, index.count());
-    let capacity = at_most(capacity, links.count());
-    let capacity = at_most(capacity, values.count());
-    at_most(capacity, slots.count())
+    let shortest = rows
+        .index
+        .count()
+        .min(rows.links.count())
+        .min(rows.values.count())
+        .min(rows.slots.count());
+    at_most(asked.min(65535), shortest)
 }
 
 impl Plan {
@@ -52,18 +51,15 @@ impl Plan {
     // 65,535 keys are asked for. Nothing changes.
     pub fn check<X: Row<Item = u32>, L: Row<Item = FreeListEntry>, D: Row, Q: Row<Item = u32>>(
         &self,
-        index: &mut X,
-        links: &mut L,
-        values: &mut D,
-        slots: &mut Q,
+        rows: &mut Rows<X, L, D, Q>,
     ) -> Result<(), Refusal>
-        ensures value { result ≡ plan_answer self.now.capacity (length (X.Row.cells index.old)) (length (L.Row.cells links.old)) (length (D.Row.cells values.old)) (length (Q.Row.cells slots.old)) }
-        ensures index { (X.Row.cells index.new ≡ X.Row.cells index.old) × ((X.Row.outside index.new ≡ X.Row.outside index.old) × (X.Row.stored index.new ≡ X.Row.stored index.old)) }
-        ensures links { (L.Row.cells links.new ≡ L.Row.cells links.old) × ((L.Row.outside links.new ≡ L.Row.outside links.old) × (L.Row.stored links.new ≡ L.Row.stored links.old)) }
-        ensures values { (D.Row.cells values.new ≡ D.Row.cells values.old) × ((D.Row.outside values.new ≡ D.Row.outside values.old) × (D.Row.stored values.new ≡ D.Row.stored values.old)) }
-        ensures slots { (Q.Row.cells slots.new ≡ Q.Row.cells slots.old) × ((Q.Row.outside slots.new ≡ Q.Row.outside slots.old) × (Q.Row.stored slots.new ≡ Q.Row.stored slots.old)) }
+        ensures value { result ≡ plan_answer self.now.capacity (length (X.Row.cells rows.old.index)) (length (L.Row.cells rows.old.links)) (length (D.Row.cells rows.old.values)) (length (Q.Row.cells rows.old.slots)) }
+        ensures index { (X.Row.cells rows.new.index ≡ X.Row.cells rows.old.index) × ((X.Row.outside rows.new.index ≡ X.Row.outside rows.old.index) × (X.Row.stored rows.new.index ≡ X.Row.stored rows.old.index)) }
+        ensures links { (L.Row.cells rows.new.links ≡ L.Row.cells rows.old.links) × ((L.Row.outside rows.new.links ≡ L.Row.outside rows.old.links) × (L.Row.stored rows.new.links ≡ L.Row.stored rows.old.links)) }
+        ensures values { (D.Row.cells rows.new.values ≡ D.Row.cells rows.old.values) × ((D.Row.outside rows.new.values ≡ D.Row.outside rows.old.values) × (D.Row.stored rows.new.values ≡ D.Row.stored rows.old.values)) }
+        ensures slots { (Q.Row.cells rows.new.slots ≡ Q.Row.cells rows.old.slots) × ((Q.Row.outside rows.new.slots ≡ Q.Row.outside rows.old.slots) × (Q.Row.stored rows.new.slots ≡ Q.Row.stored rows.old.slots)) }
     {
-        let capacity = capacity_over(self.capacity, index, links, values, slots);
+        let capacity = capacity_over(self.capacity, rows);
         if self.capacity == capacity {
             Ok(())
         } else {
@@ -77,13 +73,19 @@ impl Plan {
         L: Row<Item = FreeListEntry>,
         D: Row,
         Q: Row<Item = u32>,
-    >(self, mut index: X, mut links: L, mut values: D, mut slots: Q) -> MetaSlotMap<X, L, D, Q>
-        ensures cells { laid X.Row.cells L.Row.cells D.Row.cells Q.Row.cells result ≡ fresh_layout (size_over self.capacity (X.Row.cells index) (L.Row.cells links) (D.Row.cells values) (Q.Row.cells slots)) (X.Row.cells index) (L.Row.cells links) (D.Row.cells values) (Q.Row.cells slots) }
-        ensures unwritten { D.Row.stored result.«data» ≡ D.Row.stored values }
-        ensures outside { (X.Row.outside result.idx_to_data ≡ X.Row.outside index) × ((L.Row.outside result.idx_to_data_free_list ≡ L.Row.outside links) × ((D.Row.outside result.«data» ≡ D.Row.outside values) × (Q.Row.outside result.data_next_free_index.row ≡ Q.Row.outside slots))) }
+    >(self, mut rows: Rows<X, L, D, Q>) -> MetaSlotMap<X, L, D, Q>
+        ensures cells { laid X.Row.cells L.Row.cells D.Row.cells Q.Row.cells result ≡ fresh_layout (size_over self.capacity (X.Row.cells rows.index) (L.Row.cells rows.links) (D.Row.cells rows.values) (Q.Row.cells rows.slots)) (X.Row.cells rows.index) (L.Row.cells rows.links) (D.Row.cells rows.values) (Q.Row.cells rows.slots) }
+        ensures unwritten { D.Row.stored result.«data» ≡ D.Row.stored rows.values }
+        ensures outside { (X.Row.outside result.idx_to_data ≡ X.Row.outside rows.index) × ((L.Row.outside result.idx_to_data_free_list ≡ L.Row.outside rows.links) × ((D.Row.outside result.«data» ≡ D.Row.outside rows.values) × (Q.Row.outside result.data_next_free_index.row ≡ Q.Row.outside rows.slots))) }
     {
         let Plan { capacity: asked } = self;
-        let capacity = capacity_over(asked, &mut index, &mut links, &mut values, &mut slots);
+        let capacity = capacity_over(asked, &mut rows);
+        let Rows {
+            mut index,
+            mut links,
+            values,
+            slots,
+        } = rows;
         clear_index(&mut index, capacity);
         link_all(&mut links, capacity);
         let mut queue = MetaQueue::with_capacity(slots, capacity);
@@ -103,18 +105,15 @@ impl Plan {
     // the counts of the rows; no cell past it is touched, and no value is written.
     pub fn init<X: Row<Item = u32>, L: Row<Item = FreeListEntry>, D: Row, Q: Row<Item = u32>>(
         self,
-        index: X,
-        links: L,
-        values: D,
-        slots: Q,
+        rows: Rows<X, L, D, Q>,
     ) -> MetaSlotMap<X, L, D, Q>
-        ensures cells { laid X.Row.cells L.Row.cells D.Row.cells Q.Row.cells result ≡ fresh_layout (size_over self.capacity (X.Row.cells index) (L.Row.cells links) (D.Row.cells values) (Q.Row.cells slots)) (X.Row.cells index) (L.Row.cells links) (D.Row.cells values) (Q.Row.cells slots) }
-        ensures means { Means (laid X.Row.cells L.Row.cells D.Row.cells Q.Row.cells result) (fresh (size_over self.capacity (X.Row.cells index) (L.Row.cells links) (D.Row.cells values) (Q.Row.cells slots))) }
-        ensures reached { Reached (size_over self.capacity (X.Row.cells index) (L.Row.cells links) (D.Row.cells values) (Q.Row.cells slots)) [] (laid X.Row.cells L.Row.cells D.Row.cells Q.Row.cells result) }
-        ensures beyond { SameBeyond (bare (size_over self.capacity (X.Row.cells index) (L.Row.cells links) (D.Row.cells values) (Q.Row.cells slots)) (X.Row.cells index) (L.Row.cells links) (D.Row.cells values) (Q.Row.cells slots)) (laid X.Row.cells L.Row.cells D.Row.cells Q.Row.cells result) }
-        ensures unwritten { D.Row.stored result.«data» ≡ D.Row.stored values }
-        ensures outside { (X.Row.outside result.idx_to_data ≡ X.Row.outside index) × ((L.Row.outside result.idx_to_data_free_list ≡ L.Row.outside links) × ((D.Row.outside result.«data» ≡ D.Row.outside values) × (Q.Row.outside result.data_next_free_index.row ≡ Q.Row.outside slots))) }
+        ensures cells { laid X.Row.cells L.Row.cells D.Row.cells Q.Row.cells result ≡ fresh_layout (size_over self.capacity (X.Row.cells rows.index) (L.Row.cells rows.links) (D.Row.cells rows.values) (Q.Row.cells rows.slots)) (X.Row.cells rows.index) (L.Row.cells rows.links) (D.Row.cells rows.values) (Q.Row.cells rows.slots) }
+        ensures means { Means (laid X.Row.cells L.Row.cells D.Row.cells Q.Row.cells result) (fresh (size_over self.capacity (X.Row.cells rows.index) (L.Row.cells rows.links) (D.Row.cells rows.values) (Q.Row.cells rows.slots))) }
+        ensures reached { Reached (size_over self.capacity (X.Row.cells rows.index) (L.Row.cells rows.links) (D.Row.cells rows.values) (Q.Row.cells rows.slots)) [] (laid X.Row.cells L.Row.cells D.Row.cells Q.Row.cells result) }
+        ensures beyond { SameBeyond (bare (size_over self.capacity (X.Row.cells rows.index) (L.Row.cells rows.links) (D.Row.cells rows.values) (Q.Row.cells rows.slots)) (X.Row.cells rows.index) (L.Row.cells rows.links) (D.Row.cells rows.values) (Q.Row.cells rows.slots)) (laid X.Row.cells L.Row.cells D.Row.cells Q.Row.cells result) }
+        ensures unwritten { D.Row.stored result.«data» ≡ D.Row.stored rows.values }
+        ensures outside { (X.Row.outside result.idx_to_data ≡ X.Row.outside rows.index) × ((L.Row.outside result.idx_to_data_free_list ≡ L.Row.outside rows.links) × ((D.Row.outside result.«data» ≡ D.Row.outside rows.values) × (Q.Row.outside result.data_next_free_index.row ≡ Q.Row.outside rows.slots))) }
     {
-        self.initialize_data_structures(index, links, values, slots)
+        self.initialize_data_structures(rows)
     }
 }

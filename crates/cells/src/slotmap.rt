@@ -24,7 +24,7 @@ pub struct MetaSlotMap<
     pub(crate) len: u32,
 }
 
-// The rows of a table that was given up.
+// The four rows of a table: those that it is made over, and those that it gives back.
 #[derive(Drop)]
 pub struct Rows<X, L, D, Q> {
     pub index: X,

@@ -144,9 +144,10 @@ impl<X: Row<Item = u32>, L: Row<Item = FreeListEntry>, D: Row, Q: Row<Item = u32
     }
 
     fn index_of(&mut self, key: SlotMapKey) -> Result<Option<u32>, Refusal> {
-        let Ok(slot) = self.idx_to_data.read(key as usize) else {
-            return Err(Refusal::AuditFailed);
-        };
+        let slot = self
+            .idx_to_data
+            .read(key as usize)
+            .or(Err(Refusal::AuditFailed))?;
         if slot == NONE {
             return Ok(None);
         }
@@ -164,17 +165,12 @@ impl<X: Row<Item = u32>, L: Row<Item = FreeListEntry>, D: Row, Q: Row<Item = u32
     }
 
     fn value_of(&mut self, slot: u32) -> Result<D::Item, Refusal> {
-        match self.data.read(slot as usize) {
-            Ok(value) => Ok(value),
-            Err(_) => Err(Refusal::AuditFailed),
-        }
+        self.data.read(slot as usize).or(Err(Refusal::AuditFailed))
     }
 
     fn acquire_next_free_index(&self) -> Option<SlotMapKey> {
-        if self.idx_to_data_free_list_head == NONE {
-            return None;
-        }
-        Some(self.idx_to_data_free_list_head)
+        let head = self.idx_to_data_free_list_head;
+        (head != NONE).then_some(head)
     }
 
     fn waiting_slot(&mut self) -> Result<u32, Refusal> {
@@ -227,10 +223,9 @@ impl<X: Row<Item = u32>, L: Row<Item = FreeListEntry>, D: Row, Q: Row<Item = u32
     }
 
     fn overwrite(&mut self, slot: u32, value: D::Item) -> Result<(), Refusal> {
-        match self.data.write(slot as usize, value) {
-            Ok(()) => Ok(()),
-            Err(_) => Err(Refusal::AuditFailed),
-        }
+        self.data
+            .write(slot as usize, value)
+            .or(Err(Refusal::AuditFailed))
     }
 
     fn vacate(&mut self, key: SlotMapKey, slot: u32) -> Result<(), Refusal> {
@@ -238,15 +233,15 @@ impl<X: Row<Item = u32>, L: Row<Item = FreeListEntry>, D: Row, Q: Row<Item = u32
             return Err(Refusal::AuditFailed);
         }
         let capacity = self.data_next_free_index.capacity();
-        let _ = link_of(&mut self.idx_to_data_free_list, capacity, key)?;
+        link_of(&mut self.idx_to_data_free_list, capacity, key)?;
         check_neighbour(
             &mut self.idx_to_data_free_list,
             capacity,
             self.idx_to_data_free_list_head,
         )?;
-        if self.data_next_free_index.push(slot).is_err() {
-            return Err(Refusal::AuditFailed);
-        }
+        self.data_next_free_index
+            .push(slot)
+            .or(Err(Refusal::AuditFailed))?;
         self.release_free_index(key);
         let _ = self.idx_to_data.write(key as usize, NONE);
         self.len -= 1;
