@@ -14,13 +14,11 @@ pub fn get_impl<T: Steps>(table: &mut T, key: SlotMapKey) -> Result<Option<T::Va
     ensures untouched { T.Steps.stored table.new ≡ T.Steps.stored table.old }
     ensures beside { T.Steps.outside table.new ≡ T.Steps.outside table.old }
 {
-    match table.slot_of(key)? {
-        Some(slot) => {
-            let value = table.value_of(slot)?;
-            Ok(Some(value))
-        }
-        None => Ok(None),
-    }
+    let Some(slot) = table.slot_of(key)? else {
+        return Ok(None);
+    };
+    let value = table.value_of(slot)?;
+    Ok(Some(value))
 }
 
 // Whether `key` holds something.
@@ -89,14 +87,12 @@ pub fn replace_impl<T: Steps>(
     ensures kept { gave result ≡ false → T.Steps.stored table.new ≡ T.Steps.stored table.old }
     ensures beside { T.Steps.outside table.new ≡ T.Steps.outside table.old }
 {
-    match table.slot_of(key)? {
-        Some(slot) => {
-            let old = table.value_of(slot)?;
-            let _ = table.overwrite(slot, value);
-            Ok(Some(old))
-        }
-        None => Ok(None),
-    }
+    let Some(slot) = table.slot_of(key)? else {
+        return Ok(None);
+    };
+    let old = table.value_of(slot)?;
+    let _ = table.overwrite(slot, value);
+    Ok(Some(old))
 }
 
 // Empties `key`, and answers what it held.
@@ -106,12 +102,10 @@ pub fn remove_impl<T: Steps>(table: &mut T, key: SlotMapKey) -> Result<Option<T:
     ensures kept { gave result ≡ false → T.Steps.stored table.new ≡ T.Steps.stored table.old }
     ensures beside { T.Steps.outside table.new ≡ T.Steps.outside table.old }
 {
-    match table.slot_of(key)? {
-        Some(slot) => {
-            let value = table.value_of(slot)?;
-            table.vacate(key, slot)?;
-            Ok(Some(value))
-        }
-        None => Ok(None),
-    }
+    let Some(slot) = table.slot_of(key)? else {
+        return Ok(None);
+    };
+    let value = table.value_of(slot)?;
+    table.vacate(key, slot)?;
+    Ok(Some(value))
 }

@@ -161,9 +161,8 @@ impl<T: Steps> SlotMap for T {
 
     fn next_available_key_after(&mut self, start: SlotMapKey) -> Option<(SlotMapKey, T::Value)> {
         for key in start..self.capacity() {
-            match get_impl(self, key).unwrap_or(None) {
-                Some(value) => return Some((key, value)),
-                None => {}
+            if let Some(value) = get_impl(self, key).unwrap_or(None) {
+                return Some((key, value));
             }
         }
         None

@@ -12,6 +12,6 @@ returns g c =
     record {
       value = filled.0;
       after = filled.1;
-      kept = λ no. let z : ◌≡◌ {A = ℕ} 0 1 = cc in absurd (omega arith);
+      kept = λ no. cc;
       beside = c.claim_index.ensures.beside ∙ c.in_ok-store_value.ensures.beside ∙ c.in_ok-entry.ensures.beside;
     }

@@ -33,7 +33,7 @@ loop-key-preserved g c =
     let key = c.loop-key.key in
     let read = c.get_impl.ensures in
     let held : result_unwrap_or (get_cells l key) None ≡ None
-    = sym (c.in-None.ensures ∙ ap (λ r. result_unwrap_or r None) (read.value ∙ ap (λ n. get_cells n key) inv.0)) in (
+    = sym (c.in_default.ensures ∙ ap (λ r. result_unwrap_or r None) (read.value ∙ ap (λ n. get_cells n key) inv.0)) in (
       read.same ∙ inv.0,
       read.untouched ∙ inv.1,
       read.beside ∙ inv.2,
