@@ -27,7 +27,3 @@ layout_of r index links values slots =
 -- accepted where the cells stand, and refused as cells that fail the audit where they do not
 abbrev pub Verdict : {V : Type 0} → Result (Unit {0}) Refusal → Layout V → Type 0
 Verdict r l = ((r ≡ Ok tt) × Stands l) ⊎ ((r ≡ Err AuditFailed) × (Stands l → ⊥))
-
--- a row that was a and is b has the same cells, the same around them, and is stored as it was
-abbrev pub Kept : {R X O S : Type 0} → (R → X) → (R → O) → (R → S) → R → R → Type 0
-Kept cells outside stored a b = (cells b ≡ cells a) × (outside b ≡ outside a) × (stored b ≡ stored a)

@@ -1,6 +1,6 @@
 // The cells of a row, read without a refusal.
 ghost use Rattle.std.specs.Prelude.{◌≡◌, slice_index_or};
-ghost use Rattle.audit.specs.Verdict.{Kept};
+ghost use Rattle.rows.specs.Cells.{Kept};
 
 use rows::Row;
 

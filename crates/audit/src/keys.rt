@@ -1,7 +1,7 @@
 // The keys: those that are vacant stand in the free list, and those that hold have no links.
 ghost use Rattle.std.specs.Prelude.{◌≡◌, MatchBool};
 ghost use Rattle.audit.specs.Parts.{next_key, Listed, Loose};
-ghost use Rattle.audit.specs.Verdict.{Kept};
+ghost use Rattle.rows.specs.Cells.{Kept};
 
 use crate::cells::cell_or;
 use rows::{FreeListEntry, NO_LINK, NONE, Row};

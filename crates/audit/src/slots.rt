@@ -1,7 +1,8 @@
 // The slots: each belongs to one key or waits once. A slot that was met has a mark.
 ghost use Rattle.std.specs.Prelude.{◌≡◌, ℕ, ◌-◌, ◌<◌, ◌≤◌, true, false, length, MatchBool, slice_index_or, slice_set};
 ghost use Rattle.audit.specs.Parts.{Unmarked, ring, Apart, Marked, Shared};
-ghost use Rattle.audit.specs.Verdict.{Kept, queue_of};
+ghost use Rattle.rows.specs.Cells.{Kept};
+ghost use Rattle.audit.specs.Verdict.{queue_of};
 
 use crate::cells::cell_or;
 use crate::registers::Registers;

@@ -2,7 +2,8 @@
 ghost use Rattle.std.specs.Prelude.{◌≡◌, ℕ, ◌<◌, ◌≤◌, false, length, MatchBool, nat_le, slice_index_or};
 ghost use Rattle.model.specs.Sound.{Stands};
 ghost use Rattle.audit.specs.Parts.{Sized};
-ghost use Rattle.audit.specs.Verdict.{layout_of, Verdict, Kept};
+ghost use Rattle.rows.specs.Cells.{Kept};
+ghost use Rattle.audit.specs.Verdict.{layout_of, Verdict};
 
 use crate::keys::{free_list_stands, holding_keys_are_loose};
 use crate::registers::Registers;
@@ -91,10 +92,10 @@ pub fn audit<X: Row<Item = u32>, L: Row<Item = FreeListEntry>, D: Row, Q: Row<It
     registers: Registers,
 ) -> Result<(), Refusal>
     ensures verdict { Verdict result (layout_of registers (X.Row.cells index.old) (L.Row.cells links.old) (D.Row.cells values.old) (Q.Row.cells slots.old)) }
-    ensures index { (X.Row.cells index.new ≡ X.Row.cells index.old) × ((X.Row.outside index.new ≡ X.Row.outside index.old) × (X.Row.stored index.new ≡ X.Row.stored index.old)) }
-    ensures links { (L.Row.cells links.new ≡ L.Row.cells links.old) × ((L.Row.outside links.new ≡ L.Row.outside links.old) × (L.Row.stored links.new ≡ L.Row.stored links.old)) }
-    ensures values { (D.Row.cells values.new ≡ D.Row.cells values.old) × ((D.Row.outside values.new ≡ D.Row.outside values.old) × (D.Row.stored values.new ≡ D.Row.stored values.old)) }
-    ensures slots { (Q.Row.cells slots.new ≡ Q.Row.cells slots.old) × ((Q.Row.outside slots.new ≡ Q.Row.outside slots.old) × (Q.Row.stored slots.new ≡ Q.Row.stored slots.old)) }
+    ensures index { Kept X.Row.cells X.Row.outside X.Row.stored index.old index.new }
+    ensures links { Kept L.Row.cells L.Row.outside L.Row.stored links.old links.new }
+    ensures values { Kept D.Row.cells D.Row.outside D.Row.stored values.old values.new }
+    ensures slots { Kept Q.Row.cells Q.Row.outside Q.Row.stored slots.old slots.new }
 {
     let mut marks = [false; 65535];
     if stands(index, links, values, slots, registers, &mut marks) {

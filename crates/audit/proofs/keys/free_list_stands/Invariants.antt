@@ -1,6 +1,6 @@
 use Rattle.std.proofs.Common.{◌≡◌, ◌-◌}
 use Rattle.model.specs.Layouts.{nil}
-use Rattle.audit.specs.Verdict.{Kept}
+use Rattle.rows.specs.Cells.{Kept}
 use Rattle.audit.proofs.Walks.{walk}
 use Rattle.audit.proofs.keys.free_list_stands.Given as goal
 

@@ -1,5 +1,5 @@
 use Rattle.audit.specs.Parts.{Loose}
-use Rattle.audit.specs.Verdict.{Kept}
+use Rattle.rows.specs.Cells.{Kept}
 use Rattle.audit.proofs.keys.holding_keys_are_loose.Given as goal
 
 abbrev pub invariant-loop-key : goal.invariant-loop-key

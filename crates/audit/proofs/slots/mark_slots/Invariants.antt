@@ -1,6 +1,6 @@
 use Rattle.std.proofs.Common.{◌≤◌}
 use Rattle.audit.specs.Parts.{ring, Marked}
-use Rattle.audit.specs.Verdict.{Kept}
+use Rattle.rows.specs.Cells.{Kept}
 use Rattle.audit.proofs.slots.mark_slots.Given as goal
 
 abbrev pub invariant-loop-i : goal.invariant-loop-i

@@ -13,9 +13,9 @@ returns g c =
           fresh_laid c.capacity_over-capacity.result _ c.first_key-head.result _ _ _ _ _ _ _ _ _ _ _ _ _
           over.value over.index.0 c.clear_index.ensures.after over.links.0 c.link_all.ensures.after over.values.0 c.first_key-head.ensures
           (omega (arith, over.value)) (ap (λ q. q.cells) made) over.slots.0 c.queue_all.ensures.after;
-      unwritten = over.values.1.1;
+      unwritten = over.values.2;
       outside = (
-        c.clear_index.ensures.beside ∙ over.index.1.0,
-        (c.link_all.ensures.beside ∙ over.links.1.0, (over.values.1.0, c.queue_all.ensures.beside ∙ c.with_capacity-queue.ensures.beside ∙ over.slots.1.0)),
+        c.clear_index.ensures.beside ∙ over.index.1,
+        (c.link_all.ensures.beside ∙ over.links.1, (over.values.1, c.queue_all.ensures.beside ∙ c.with_capacity-queue.ensures.beside ∙ over.slots.1)),
       );
     }
