@@ -6,7 +6,7 @@ use Rattle.model.specs.Layouts.{Layout}
 use Rattle.cells.specs.declared.slotmap.MetaSlotMap.{MetaSlotMap}
 
 -- the layout of a table over rows whose cells are known
-abbrev pub laid : {X L D Q V : Type 0} → (X → List ℕ) → (L → List FreeListEntry) → (D → List V) → (Q → List ℕ) → MetaSlotMap X L D Q V → Layout V
+abbrev pub laid : {X L D Q V : Type 0} {row : _} → (X → List ℕ) → (L → List FreeListEntry) → (D → List V) → (Q → List ℕ) → MetaSlotMap X L D Q V row → Layout V
 laid index links values slots t =
     record {
       head = t.idx_to_data_free_list_head;

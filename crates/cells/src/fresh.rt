@@ -1,6 +1,6 @@
 // The cells of a fresh table.
 ghost use Rattle.std.specs.Prelude.{◌≡◌, min};
-ghost use Rattle.containers.specs.Queues.{queue as state, empty, Backed};
+ghost use Rattle.containers.specs.Queues.{queue as state, empty};
 ghost use Rattle.model.specs.Fresh.{written, slots_to};
 ghost use Rattle.model.specs.Layouts.{nil};
 
@@ -30,7 +30,7 @@ pub(crate) fn clear_index<X: Row<Item = u32>>(index: &mut X, capacity: u32)
 
 // All slots wait, in order.
 pub(crate) fn queue_all<Q: Row<Item = u32>>(slots: &mut MetaQueue<Q>)
-    requires { (state Q.Row.cells slots.old ≡ empty (state Q.Row.cells slots.old).capacity (Q.Row.cells slots.old.row)) × (Backed (state Q.Row.cells slots.old)) }
+    requires { state Q.Row.cells slots.old ≡ empty (state Q.Row.cells slots.old).capacity (Q.Row.cells slots.old.row) }
     ensures after { state Q.Row.cells slots.new ≡ slots_to (state Q.Row.cells slots.old).capacity (state Q.Row.cells slots.old).capacity (Q.Row.cells slots.old.row) }
     ensures beside { Q.Row.outside slots.new.row ≡ Q.Row.outside slots.old.row }
 {

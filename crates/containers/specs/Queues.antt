@@ -16,7 +16,7 @@ pub record QueueState (T : Type 0) : Type 0 where
   pub cells : List T
 
 -- the state of a queue over a row whose cells are known
-abbrev pub queue : {R T : Type 0} → (R → List T) → MetaQueue R T → QueueState T
+abbrev pub queue : {R T : Type 0} {row : _} → (R → List T) → MetaQueue R T row → QueueState T
 queue cells q =
     record {
       capacity = q.position.capacity;

@@ -13,7 +13,7 @@ pub record VecState (T : Type 0) : Type 0 where
   pub cells : List T
 
 -- the state of a vector over a row whose cells are known
-abbrev pub vector : {R T : Type 0} → (R → List T) → MetaVec R T → VecState T
+abbrev pub vector : {R T : Type 0} {row : _} → (R → List T) → MetaVec R T row → VecState T
 vector cells v = record { capacity = v.extent.capacity; len = v.extent.len; cells = cells v.row }
 
 -- every place of the capacity is a cell of the row

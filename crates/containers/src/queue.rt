@@ -1,10 +1,9 @@
 // A queue over any row.
-ghost use Rattle.std.specs.Prelude.{◌≡◌, ℕ, min, false, [], ◌∷◌, ◌++◌, length, drop, is_ok, if◌then◌else◌, Ok, ◌==◌};
+ghost use Rattle.std.specs.Prelude.{◌≡◌, ◌≤◌, ℕ, min, false, [], ◌∷◌, ◌++◌, length, drop, is_ok, if◌then◌else◌, Ok, ◌==◌};
 ghost use Rattle.std.specs.List.{slice_get};
 ghost use Rattle.std.specs.Option.{ok_or};
 ghost use Rattle.refusal.specs.declared.Refusal.TheVariants.{PlacePastLength};
 ghost use Rattle.containers.specs.Bounded.{Means, append_answer, appended, displaced, latest};
-ghost use Rattle.containers.specs.Queues.{queue, contents, empty, cleared, Backed, pushed, popped, overflowed, push_answer, oldest_answer, overflow_answer, get_answer};
 
 use crate::capacity::fitting;
 use crate::position::Position;
@@ -16,13 +15,15 @@ use rows::Row;
 pub struct MetaQueue<R: Row> {
     row: R,
     position: Position,
+    pub ghost backed: { position.capacity ≤ length (R.Row.cells row) },
 }
 
 impl<R: Row> MetaQueue<R> {
+    ghost use Rattle.containers.specs.Queues.{queue, contents, empty, cleared, Backed, pushed, popped, overflowed, push_answer, oldest_answer, overflow_answer, get_answer};
+
     // An empty queue over all cells of `row`, or over the first 65,535 of them.
     pub fn new(row: R) -> Self
         ensures state { queue R.Row.cells result ≡ empty (min 65535 (length (R.Row.cells row))) (R.Row.cells row) }
-        ensures backed { Backed (queue R.Row.cells result) }
         ensures beside { R.Row.outside result.row ≡ R.Row.outside row }
     {
         MetaQueue::with_capacity(row, u32::MAX)
@@ -32,7 +33,6 @@ impl<R: Row> MetaQueue<R> {
     // they are at most 65,535.
     pub fn with_capacity(mut row: R, capacity: u32) -> Self
         ensures state { queue R.Row.cells result ≡ empty (min (min capacity 65535) (length (R.Row.cells row))) (R.Row.cells row) }
-        ensures backed { Backed (queue R.Row.cells result) }
         ensures beside { R.Row.outside result.row ≡ R.Row.outside row }
     {
         let capacity = fitting(capacity, row.count());
@@ -53,7 +53,7 @@ impl<R: Row> MetaQueue<R> {
     pub fn get(&mut self, index: usize) -> Result<R::Item, Refusal>
         ensures value { result ≡ get_answer (queue R.Row.cells self.old) index }
         ensures same { (queue R.Row.cells self.new) ≡ (queue R.Row.cells self.old) }
-        ensures means { Backed (queue R.Row.cells self.old) → Means contents Backed (queue R.Row.cells self.old) result (queue R.Row.cells self.new) (λ xs. ok_or (slice_get xs index) PlacePastLength) (λ xs. xs) }
+        ensures means { Means contents Backed (queue R.Row.cells self.old) result (queue R.Row.cells self.new) (λ xs. ok_or (slice_get xs index) PlacePastLength) (λ xs. xs) }
         ensures untouched { R.Row.stored self.new.row ≡ R.Row.stored self.old.row }
         ensures beside { R.Row.outside self.new.row ≡ R.Row.outside self.old.row }
     {
@@ -63,7 +63,7 @@ impl<R: Row> MetaQueue<R> {
     // True where nothing is held.
     pub fn is_empty(&self) -> bool
         ensures value { result ≡ ((queue R.Row.cells self.now).len == 0) }
-        ensures means { Backed (queue R.Row.cells self.now) → result ≡ (length (contents (queue R.Row.cells self.now)) == 0) }
+        ensures means { result ≡ (length (contents (queue R.Row.cells self.now)) == 0) }
     {
         self.len() == 0
     }
@@ -85,7 +85,7 @@ impl<R: Row> MetaQueue<R> {
     // How many elements are held.
     pub fn len(&self) -> u32
         ensures value { result ≡ (queue R.Row.cells self.now).len }
-        ensures means { Backed (queue R.Row.cells self.now) → result ≡ length (contents (queue R.Row.cells self.now)) }
+        ensures means { result ≡ length (contents (queue R.Row.cells self.now)) }
     {
         self.position.len
     }
@@ -93,7 +93,7 @@ impl<R: Row> MetaQueue<R> {
     // True where no more can be held.
     pub fn is_full(&self) -> bool
         ensures value { result ≡ ((queue R.Row.cells self.now).len == (queue R.Row.cells self.now).capacity) }
-        ensures means { Backed (queue R.Row.cells self.now) → result ≡ (length (contents (queue R.Row.cells self.now)) == (queue R.Row.cells self.now).capacity) }
+        ensures means { result ≡ (length (contents (queue R.Row.cells self.now)) == (queue R.Row.cells self.now).capacity) }
     {
         self.len() == self.capacity()
     }
@@ -102,7 +102,6 @@ impl<R: Row> MetaQueue<R> {
     pub fn clear(&mut self)
         ensures after { (queue R.Row.cells self.new) ≡ cleared (queue R.Row.cells self.old) }
         ensures holds { contents (queue R.Row.cells self.new) ≡ [] }
-        ensures backed { Backed (queue R.Row.cells self.old) → Backed (queue R.Row.cells self.new) }
         ensures beside { R.Row.outside self.new.row ≡ R.Row.outside self.old.row }
     {
         self.position = self.position.cleared();
@@ -112,7 +111,7 @@ impl<R: Row> MetaQueue<R> {
     pub fn peek(&mut self) -> Result<Option<R::Item>, Refusal>
         ensures value { result ≡ oldest_answer (queue R.Row.cells self.old) }
         ensures same { (queue R.Row.cells self.new) ≡ (queue R.Row.cells self.old) }
-        ensures means { Backed (queue R.Row.cells self.old) → Means contents Backed (queue R.Row.cells self.old) result (queue R.Row.cells self.new) (λ xs. Ok (slice_get xs 0)) (λ xs. xs) }
+        ensures means { Means contents Backed (queue R.Row.cells self.old) result (queue R.Row.cells self.new) (λ xs. Ok (slice_get xs 0)) (λ xs. xs) }
         ensures untouched { R.Row.stored self.new.row ≡ R.Row.stored self.old.row }
         ensures beside { R.Row.outside self.new.row ≡ R.Row.outside self.old.row }
     {
@@ -123,7 +122,7 @@ impl<R: Row> MetaQueue<R> {
     pub fn pop(&mut self) -> Result<Option<R::Item>, Refusal>
         ensures value { result ≡ oldest_answer (queue R.Row.cells self.old) }
         ensures after { (queue R.Row.cells self.new) ≡ (if is_ok result then popped (queue R.Row.cells self.old) else queue R.Row.cells self.old) }
-        ensures means { Backed (queue R.Row.cells self.old) → Means contents Backed (queue R.Row.cells self.old) result (queue R.Row.cells self.new) (λ xs. Ok (slice_get xs 0)) (drop 1) }
+        ensures means { Means contents Backed (queue R.Row.cells self.old) result (queue R.Row.cells self.new) (λ xs. Ok (slice_get xs 0)) (drop 1) }
         ensures untouched { R.Row.stored self.new.row ≡ R.Row.stored self.old.row }
         ensures beside { R.Row.outside self.new.row ≡ R.Row.outside self.old.row }
     {
@@ -134,7 +133,7 @@ impl<R: Row> MetaQueue<R> {
     pub fn push(&mut self, value: R::Item) -> Result<(), Refusal>
         ensures value { result ≡ push_answer (queue R.Row.cells self.old) }
         ensures after { (queue R.Row.cells self.new) ≡ (if is_ok result then pushed (queue R.Row.cells self.old) value else queue R.Row.cells self.old) }
-        ensures means { Backed (queue R.Row.cells self.old) → Means contents Backed (queue R.Row.cells self.old) result (queue R.Row.cells self.new) (append_answer (queue R.Row.cells self.old).capacity) (appended (queue R.Row.cells self.old).capacity value) }
+        ensures means { Means contents Backed (queue R.Row.cells self.old) result (queue R.Row.cells self.new) (append_answer (queue R.Row.cells self.old).capacity) (appended (queue R.Row.cells self.old).capacity value) }
         ensures kept { is_ok result ≡ false → R.Row.stored self.new.row ≡ R.Row.stored self.old.row }
         ensures beside { R.Row.outside self.new.row ≡ R.Row.outside self.old.row }
     {
@@ -146,7 +145,7 @@ impl<R: Row> MetaQueue<R> {
     pub fn push_with_overflow(&mut self, value: R::Item) -> Result<Option<R::Item>, Refusal>
         ensures value { result ≡ overflow_answer (queue R.Row.cells self.old) }
         ensures after { (queue R.Row.cells self.new) ≡ (if is_ok result then overflowed (queue R.Row.cells self.old) value else queue R.Row.cells self.old) }
-        ensures means { Backed (queue R.Row.cells self.old) → Means contents Backed (queue R.Row.cells self.old) result (queue R.Row.cells self.new) (displaced (queue R.Row.cells self.old).capacity) (λ xs. latest (queue R.Row.cells self.old).capacity (xs ++ (value ∷ []))) }
+        ensures means { Means contents Backed (queue R.Row.cells self.old) result (queue R.Row.cells self.new) (displaced (queue R.Row.cells self.old).capacity) (λ xs. latest (queue R.Row.cells self.old).capacity (xs ++ (value ∷ []))) }
         ensures kept { is_ok result ≡ false → R.Row.stored self.new.row ≡ R.Row.stored self.old.row }
         ensures beside { R.Row.outside self.new.row ≡ R.Row.outside self.old.row }
     {
@@ -156,6 +155,8 @@ impl<R: Row> MetaQueue<R> {
 
 // What the calls do to the cells and the position, whatever the cells are.
 impl<R: Row> MetaQueue<R> {
+    ghost use Rattle.containers.specs.Queues.{queue, contents, empty, cleared, Backed, pushed, popped, overflowed, push_answer, oldest_answer, overflow_answer, get_answer};
+
     fn get_impl(&mut self, index: usize) -> Result<R::Item, Refusal>
         ensures value { result ≡ get_answer (queue R.Row.cells self.old) index }
         ensures same { (queue R.Row.cells self.new) ≡ (queue R.Row.cells self.old) }

@@ -1,10 +1,9 @@
 // A vector over any row.
-ghost use Rattle.std.specs.Prelude.{◌≡◌, ◌+◌, ◌-◌, min, false, [], length, take, is_ok, if◌then◌else◌, Ok, Err, ◌==◌, nat_lt, slice_set};
+ghost use Rattle.std.specs.Prelude.{◌≡◌, ◌+◌, ◌-◌, ◌≤◌, min, false, [], length, take, is_ok, if◌then◌else◌, Ok, Err, ◌==◌, nat_lt, slice_set};
 ghost use Rattle.std.specs.List.{slice_get};
 ghost use Rattle.std.specs.Option.{ok_or};
 ghost use Rattle.refusal.specs.declared.Refusal.TheVariants.{PlacePastLength};
 ghost use Rattle.containers.specs.Bounded.{Means, append_answer, appended};
-ghost use Rattle.containers.specs.Vectors.{vector, contents, with, Backed, push_answer, pop_answer, read_answer, write_answer};
 
 use crate::capacity::fitting;
 use crate::extent::Extent;
@@ -16,13 +15,15 @@ use rows::Row;
 pub struct MetaVec<R: Row> {
     row: R,
     extent: Extent,
+    pub ghost backed: { extent.capacity ≤ length (R.Row.cells row) },
 }
 
 impl<R: Row> MetaVec<R> {
+    ghost use Rattle.containers.specs.Vectors.{vector, contents, with, Backed, push_answer, pop_answer, read_answer, write_answer};
+
     // An empty vector over all cells of `row`, or over the first 65,535 of them.
     pub fn new(mut row: R) -> Self
         ensures state { vector R.Row.cells result ≡ record { capacity = min 65535 (length (R.Row.cells row)); len = 0; cells = R.Row.cells row } }
-        ensures backed { Backed (vector R.Row.cells result) }
         ensures beside { R.Row.outside result.row ≡ R.Row.outside row }
     {
         let capacity = fitting(u32::MAX, row.count());
@@ -49,7 +50,7 @@ impl<R: Row> MetaVec<R> {
     // How many elements are held.
     pub fn len(&self) -> u32
         ensures value { result ≡ (vector R.Row.cells self.now).len }
-        ensures means { Backed (vector R.Row.cells self.now) → result ≡ length (contents (vector R.Row.cells self.now)) }
+        ensures means { result ≡ length (contents (vector R.Row.cells self.now)) }
     {
         self.extent.len
     }
@@ -57,7 +58,7 @@ impl<R: Row> MetaVec<R> {
     // True where no more can be held.
     pub fn is_full(&self) -> bool
         ensures value { result ≡ ((vector R.Row.cells self.now).len == (vector R.Row.cells self.now).capacity) }
-        ensures means { Backed (vector R.Row.cells self.now) → result ≡ (length (contents (vector R.Row.cells self.now)) == (vector R.Row.cells self.now).capacity) }
+        ensures means { result ≡ (length (contents (vector R.Row.cells self.now)) == (vector R.Row.cells self.now).capacity) }
     {
         self.len() == self.capacity()
     }
@@ -65,7 +66,7 @@ impl<R: Row> MetaVec<R> {
     // True where nothing is held.
     pub fn is_empty(&self) -> bool
         ensures value { result ≡ ((vector R.Row.cells self.now).len == 0) }
-        ensures means { Backed (vector R.Row.cells self.now) → result ≡ (length (contents (vector R.Row.cells self.now)) == 0) }
+        ensures means { result ≡ (length (contents (vector R.Row.cells self.now)) == 0) }
     {
         self.len() == 0
     }
@@ -74,7 +75,7 @@ impl<R: Row> MetaVec<R> {
     pub fn push(&mut self, value: R::Item) -> Result<(), Refusal>
         ensures value { result ≡ push_answer (vector R.Row.cells self.old) }
         ensures after { (vector R.Row.cells self.new) ≡ (if is_ok result then with (vector R.Row.cells self.old) ((vector R.Row.cells self.old).len + 1) (slice_set (vector R.Row.cells self.old).cells (vector R.Row.cells self.old).len value) else vector R.Row.cells self.old) }
-        ensures means { Backed (vector R.Row.cells self.old) → Means contents Backed (vector R.Row.cells self.old) result (vector R.Row.cells self.new) (append_answer (vector R.Row.cells self.old).capacity) (appended (vector R.Row.cells self.old).capacity value) }
+        ensures means { Means contents Backed (vector R.Row.cells self.old) result (vector R.Row.cells self.new) (append_answer (vector R.Row.cells self.old).capacity) (appended (vector R.Row.cells self.old).capacity value) }
         ensures kept { is_ok result ≡ false → R.Row.stored self.new.row ≡ R.Row.stored self.old.row }
         ensures beside { R.Row.outside self.new.row ≡ R.Row.outside self.old.row }
     {
@@ -85,7 +86,6 @@ impl<R: Row> MetaVec<R> {
     pub fn clear(&mut self)
         ensures after { (vector R.Row.cells self.new) ≡ with (vector R.Row.cells self.old) 0 (vector R.Row.cells self.old).cells }
         ensures holds { contents (vector R.Row.cells self.new) ≡ [] }
-        ensures backed { Backed (vector R.Row.cells self.old) → Backed (vector R.Row.cells self.new) }
         ensures beside { R.Row.outside self.new.row ≡ R.Row.outside self.old.row }
     {
         self.extent = self.extent.resized(0);
@@ -95,7 +95,7 @@ impl<R: Row> MetaVec<R> {
     pub fn pop(&mut self) -> Result<Option<R::Item>, Refusal>
         ensures value { result ≡ pop_answer (vector R.Row.cells self.old) }
         ensures after { (vector R.Row.cells self.new) ≡ (if is_ok result then with (vector R.Row.cells self.old) ((vector R.Row.cells self.old).len - 1) (vector R.Row.cells self.old).cells else vector R.Row.cells self.old) }
-        ensures means { Backed (vector R.Row.cells self.old) → Means contents Backed (vector R.Row.cells self.old) result (vector R.Row.cells self.new) (λ xs. Ok (slice_get xs (length xs - 1))) (λ xs. take (length xs - 1) xs) }
+        ensures means { Means contents Backed (vector R.Row.cells self.old) result (vector R.Row.cells self.new) (λ xs. Ok (slice_get xs (length xs - 1))) (λ xs. take (length xs - 1) xs) }
         ensures untouched { R.Row.stored self.new.row ≡ R.Row.stored self.old.row }
         ensures beside { R.Row.outside self.new.row ≡ R.Row.outside self.old.row }
     {
@@ -106,7 +106,7 @@ impl<R: Row> MetaVec<R> {
     pub fn read(&mut self, place: usize) -> Result<R::Item, Refusal>
         ensures value { result ≡ read_answer (vector R.Row.cells self.old) place }
         ensures same { (vector R.Row.cells self.new) ≡ (vector R.Row.cells self.old) }
-        ensures means { Backed (vector R.Row.cells self.old) → Means contents Backed (vector R.Row.cells self.old) result (vector R.Row.cells self.new) (λ xs. ok_or (slice_get xs place) PlacePastLength) (λ xs. xs) }
+        ensures means { Means contents Backed (vector R.Row.cells self.old) result (vector R.Row.cells self.new) (λ xs. ok_or (slice_get xs place) PlacePastLength) (λ xs. xs) }
         ensures untouched { R.Row.stored self.new.row ≡ R.Row.stored self.old.row }
         ensures beside { R.Row.outside self.new.row ≡ R.Row.outside self.old.row }
     {
@@ -117,7 +117,7 @@ impl<R: Row> MetaVec<R> {
     pub fn write(&mut self, place: usize, value: R::Item) -> Result<(), Refusal>
         ensures value { result ≡ write_answer (vector R.Row.cells self.old) place }
         ensures after { (vector R.Row.cells self.new) ≡ with (vector R.Row.cells self.old) (vector R.Row.cells self.old).len (if is_ok result then slice_set (vector R.Row.cells self.old).cells place value else (vector R.Row.cells self.old).cells) }
-        ensures means { Backed (vector R.Row.cells self.old) → Means contents Backed (vector R.Row.cells self.old) result (vector R.Row.cells self.new) (λ xs. (if nat_lt place (length xs) then Ok tt else Err PlacePastLength)) (λ xs. slice_set xs place value) }
+        ensures means { Means contents Backed (vector R.Row.cells self.old) result (vector R.Row.cells self.new) (λ xs. (if nat_lt place (length xs) then Ok tt else Err PlacePastLength)) (λ xs. slice_set xs place value) }
         ensures kept { is_ok result ≡ false → R.Row.stored self.new.row ≡ R.Row.stored self.old.row }
         ensures beside { R.Row.outside self.new.row ≡ R.Row.outside self.old.row }
     {
@@ -127,6 +127,8 @@ impl<R: Row> MetaVec<R> {
 
 // What the calls do to the cells and the extent, whatever the cells are.
 impl<R: Row> MetaVec<R> {
+    ghost use Rattle.containers.specs.Vectors.{vector, contents, with, Backed, push_answer, pop_answer, read_answer, write_answer};
+
     fn push_impl(&mut self, value: R::Item) -> Result<(), Refusal>
         ensures value { result ≡ push_answer (vector R.Row.cells self.old) }
         ensures after { (vector R.Row.cells self.new) ≡ (if is_ok result then with (vector R.Row.cells self.old) ((vector R.Row.cells self.old).len + 1) (slice_set (vector R.Row.cells self.old).cells (vector R.Row.cells self.old).len value) else vector R.Row.cells self.old) }

@@ -3,7 +3,7 @@ ghost use Rattle.std.specs.Prelude.{◌≡◌, ◌++◌, drop, string_bytes, OnO
 ghost use Rattle.std.specs.List.{slice_get, flat_map};
 ghost use Rattle.std.specs.Option.{option_to_list};
 ghost use Rattle.containers.specs.Bounded.{latest};
-ghost use Rattle.containers.specs.Queues.{queue as state, contents, Backed};
+ghost use Rattle.containers.specs.Queues.{queue as state, contents};
 ghost use Rattle.text.specs.Lines.{lines};
 ghost use Rattle.text.specs.Numbers.{number_of};
 ghost use Rattle.recents.specs.Recent.{numbers, number_line, complaint, complained, complaints};
@@ -37,8 +37,6 @@ fn note<R: Row<Item = u32>>(
     line: &[u8],
     place: u64,
 ) -> Result<(), AllocError>
-    requires { Backed (state R.Row.cells queue.old) }
-    ensures backed { Backed (state R.Row.cells queue.new) }
     ensures capacity { (state R.Row.cells queue.new).capacity ≡ (state R.Row.cells queue.old).capacity }
     ensures held { OnOk result (contents (state R.Row.cells queue.new) ≡ latest (state R.Row.cells queue.old).capacity (contents (state R.Row.cells queue.old) ++ option_to_list (number_of line.now))) }
     ensures err { OnOk result (string_bytes err.new ≡ string_bytes err.old ++ complained place line.now) }
@@ -61,8 +59,6 @@ pub(crate) fn note_lines<R: Row<Item = u32>>(
     err: &mut String,
     text: &[u8],
 ) -> Result<(), AllocError>
-    requires { Backed (state R.Row.cells queue.old) }
-    ensures backed { Backed (state R.Row.cells queue.new) }
     ensures held { OnOk result (contents (state R.Row.cells queue.new) ≡ latest (state R.Row.cells queue.old).capacity (contents (state R.Row.cells queue.old) ++ numbers (lines text.now))) }
     ensures err { OnOk result (string_bytes err.new ≡ string_bytes err.old ++ complaints 1 (lines text.now)) }
 {
@@ -77,10 +73,8 @@ pub(crate) fn note_lines<R: Row<Item = u32>>(
 
 // Takes the oldest number out of the queue.
 fn take_oldest<R: Row<Item = u32>>(queue: &mut MetaQueue<R>) -> Option<u32>
-    requires { Backed (state R.Row.cells queue.old) }
     ensures value { result ≡ slice_get (contents (state R.Row.cells queue.old)) 0 }
     ensures held { contents (state R.Row.cells queue.new) ≡ drop 1 (contents (state R.Row.cells queue.old)) }
-    ensures backed { Backed (state R.Row.cells queue.new) }
 {
     match queue.pop() {
         Ok(oldest) => oldest,
@@ -94,7 +88,6 @@ pub(crate) fn print_numbers<R: Row<Item = u32>>(
     queue: &mut MetaQueue<R>,
     out: &mut String,
 ) -> Result<(), AllocError>
-    requires { Backed (state R.Row.cells queue.old) }
     ensures { OnOk result (string_bytes out.new ≡ string_bytes out.old ++ flat_map number_line (contents (state R.Row.cells queue.old))) }
 {
     while let Some(n) = take_oldest(queue) {

@@ -102,5 +102,5 @@ abbrev pub Does : Layout ℕ → List ℕ → Result (Unit {0}) AllocError → L
 Does l before r printedNow l' text next = (t : Table ℕ) → Means l t → OnOk r ((printedNow ≡ before ++ text t) × Means l' (next t))
 
 -- the cells and registers of a script's table
-abbrev pub keys_layout : MetaSlotMap (InlineRow ℕ) (InlineRow FreeListEntry) (InlineRow ℕ) (InlineRow ℕ) ℕ → Layout ℕ
+abbrev pub keys_layout : {row : _} → MetaSlotMap (InlineRow ℕ) (InlineRow FreeListEntry) (InlineRow ℕ) (InlineRow ℕ) ℕ row → Layout ℕ
 keys_layout t = laid (λ r. r.cells) (λ r. r.cells) (λ r. r.cells) (λ r. r.cells) t

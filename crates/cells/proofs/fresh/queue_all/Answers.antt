@@ -4,11 +4,11 @@ use Rattle.model.proofs.Fresh.{slots_none, slots_more}
 use Rattle.cells.proofs.fresh.queue_all.Goals as goal
 
 pub loop-slot-init : goal.loop-slot-init
-loop-slot-init g c = (c.requires.0 ∙ slots_none _ _, refl)
+loop-slot-init g c = (c.requires ∙ slots_none _ _, refl)
 
 pub loop-slot-preserved : goal.loop-slot-preserved
 loop-slot-preserved g c = (
-  slots_more c.args.slots.now.position.capacity c.loop-slot.slot (g.Q.Row.cells c.args.slots.now.row) _ _ c.push.result (omega arith) c.requires.1
+  slots_more c.args.slots.now.position.capacity c.loop-slot.slot (g.Q.Row.cells c.args.slots.now.row) _ _ c.push.result (omega arith) c.args.slots.now.backed
       c.loop-slot.invariant.0 c.push.ensures.value c.push.ensures.after,
   c.push.ensures.beside ∙ c.loop-slot.invariant.1,
 )

@@ -12,10 +12,9 @@ use Rattle.recents.proofs.notes.note.Goals as goal
 pub returns-in_ok-complain-in-None : goal.returns-in_ok-complain-in-None
 returns-in_ok-complain-in-None g c =
     let q = queue g.R.Row.cells c.args.queue.now in
-    let sized = length_contents q c.args.queue.now.position.within c.requires in
+    let sized = length_contents q c.args.queue.now.position.within c.args.queue.now.backed in
     let none = c.in-None.ensures in
     record {
-      backed = c.requires;
       capacity = refl;
       held = sym (ap (λ o. latest q.capacity (contents q ++ option_to_list o)) (sym none) ∙ ap (latest q.capacity) (append-nil (contents q)) ∙ latest_all q.capacity (contents q) (omega arith));
       err =

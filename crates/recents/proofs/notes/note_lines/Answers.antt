@@ -12,7 +12,6 @@ use Rattle.recents.proofs.notes.note_lines.Goals as goal
 pub loop-line-init : goal.loop-line-init
 loop-line-init g c =
     let q = queue g.R.Row.cells c.args.queue.now in (
-      c.requires,
       refl,
       omega (arith, ap length c.new-reader.ensures),
       ap (λ text. latest q.capacity (contents q ++ numbers (lines text))) c.new-reader.ensures,
@@ -21,9 +20,6 @@ loop-line-init g c =
 
 pub overflow_add-place : goal.overflow_add-place
 overflow_add-place g c = omega (arith, ltb-true 0 (length c.loop-line.reader.rest.now) (sym c.in-Some.ensures.test))
-
-pub note-requires : goal.note-requires
-note-requires g c = c.loop-line.invariant.0
 
 pub loop-line-smaller : goal.loop-line-smaller
 loop-line-smaller g c = omega (arith, ltb-true 0 (length c.loop-line.reader.rest.now) (sym c.in-Some.ensures.test), c.in-Some.ensures.shorter)
@@ -37,25 +33,23 @@ loop-line-preserved g c =
     let read = c.in-Some.ensures.lines in
     let noted = c.in_ok-note.ensures in
     let some = ltb-true 0 (length c.loop-line.reader.rest.now) (sym c.in-Some.ensures.test) in (
-      noted.backed,
-      noted.capacity ∙ c.loop-line.invariant.1,
+      noted.capacity ∙ c.loop-line.invariant.0,
       omega (arith, c.in-Some.ensures.shorter),
       ap (λ n. latest n (contents after ++ numbers rest)) noted.capacity
           ∙ held_more q.capacity (contents q) (contents after) line rest noted.held
           ∙ ap (λ ls. latest q.capacity (contents q ++ numbers ls)) (sym read)
-          ∙ c.loop-line.invariant.3,
+          ∙ c.loop-line.invariant.2,
       said_more (string_bytes c.loop-line.err) (string_bytes c.note.new.err) (c.loop-line.place + 1) line rest noted.err
           ∙ ap (λ ls. string_bytes c.loop-line.err ++ complaints (c.loop-line.place + 1) ls) (sym read)
-          ∙ c.loop-line.invariant.4,
+          ∙ c.loop-line.invariant.3,
     )
 
 pub returns : goal.returns
 returns g c =
     let q = queue g.R.Row.cells c.loop-line.queue in
     let rest = no_lines c.loop-line.reader.rest.now c.in_default.ensures.test in
-    let sized = length_contents q c.loop-line.queue.position.within c.loop-line.invariant.0 in
+    let sized = length_contents q c.loop-line.queue.position.within c.loop-line.queue.backed in
     record {
-      backed = c.loop-line.invariant.0;
-      held = sym (held_all q.capacity (contents q) (lines c.loop-line.reader.rest.now) (omega arith) rest) ∙ c.loop-line.invariant.3;
-      err = sym (said_all (string_bytes c.loop-line.err) (c.loop-line.place + 1) (lines c.loop-line.reader.rest.now) rest) ∙ c.loop-line.invariant.4;
+      held = sym (held_all q.capacity (contents q) (lines c.loop-line.reader.rest.now) (omega arith) rest) ∙ c.loop-line.invariant.2;
+      err = sym (said_all (string_bytes c.loop-line.err) (c.loop-line.place + 1) (lines c.loop-line.reader.rest.now) rest) ∙ c.loop-line.invariant.3;
     }

@@ -8,7 +8,7 @@ returns g c =
     record {
       value = c.get_impl.ensures.value;
       same = c.get_impl.ensures.same;
-      means = λ backed. get_means q c.args.self.now.position.begins c.args.self.now.position.within backed c.args.index _ _ c.get_impl.ensures.value c.get_impl.ensures.same;
+      means = get_means q c.args.self.now.position.begins c.args.self.now.position.within c.args.self.now.backed c.args.index _ _ c.get_impl.ensures.value c.get_impl.ensures.same;
       untouched = c.get_impl.ensures.untouched;
       beside = c.get_impl.ensures.beside;
     }

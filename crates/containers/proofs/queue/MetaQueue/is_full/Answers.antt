@@ -7,4 +7,4 @@ pub returns : goal.returns
 returns g c =
     let s = queue g.R.Row.cells c.args.self.now in
     let both = ap (λ n. eqb n c.capacity.result) c.len.ensures.value ∙ ap (eqb s.len) c.capacity.ensures in
-    record { value = both; means = λ backed. both ∙ ap (λ n. eqb n s.capacity) (sym (length_contents s c.args.self.now.position.within backed)) }
+    record { value = both; means = both ∙ ap (λ n. eqb n s.capacity) (sym (length_contents s c.args.self.now.position.within c.args.self.now.backed)) }

@@ -6,4 +6,4 @@ use Rattle.containers.proofs.queue.MetaQueue.len.Goals as goal
 pub returns : goal.returns
 returns g c =
     let q = queue g.R.Row.cells c.args.self.now in
-    record { value = refl; means = λ backed. sym (length_contents q c.args.self.now.position.within backed) }
+    record { value = refl; means = sym (length_contents q c.args.self.now.position.within c.args.self.now.backed) }

@@ -8,7 +8,7 @@ returns g c =
     record {
       value = c.peek_impl.ensures.value;
       same = c.peek_impl.ensures.same;
-      means = λ backed. peek_means q c.args.self.now.position.begins c.args.self.now.position.within backed _ _ c.peek_impl.ensures.value c.peek_impl.ensures.same;
+      means = peek_means q c.args.self.now.position.begins c.args.self.now.position.within c.args.self.now.backed _ _ c.peek_impl.ensures.value c.peek_impl.ensures.same;
       untouched = c.peek_impl.ensures.untouched;
       beside = c.peek_impl.ensures.beside;
     }

@@ -8,7 +8,7 @@ returns g c =
     record {
       value = c.push_impl.ensures.value;
       after = c.push_impl.ensures.after;
-      means = λ backed. push_means q c.args.self.now.position.begins c.args.self.now.position.within backed c.args.value _ _ c.push_impl.ensures.value c.push_impl.ensures.after;
+      means = push_means q c.args.self.now.position.begins c.args.self.now.position.within c.args.self.now.backed c.args.value _ _ c.push_impl.ensures.value c.push_impl.ensures.after;
       kept = c.push_impl.ensures.kept;
       beside = c.push_impl.ensures.beside;
     }

@@ -8,7 +8,7 @@ returns g c =
     record {
       value = c.push_with_overflow_impl.ensures.value;
       after = c.push_with_overflow_impl.ensures.after;
-      means = λ backed. overflow_means q c.args.self.now.position.begins c.args.self.now.position.within backed c.args.value _ _ c.push_with_overflow_impl.ensures.value c.push_with_overflow_impl.ensures.after;
+      means = overflow_means q c.args.self.now.position.begins c.args.self.now.position.within c.args.self.now.backed c.args.value _ _ c.push_with_overflow_impl.ensures.value c.push_with_overflow_impl.ensures.after;
       kept = c.push_with_overflow_impl.ensures.kept;
       beside = c.push_with_overflow_impl.ensures.beside;
     }

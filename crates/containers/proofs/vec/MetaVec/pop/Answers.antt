@@ -8,7 +8,7 @@ returns g c =
     record {
       value = c.pop_impl.ensures.value;
       after = c.pop_impl.ensures.after;
-      means = λ backed. pop_means v c.args.self.now.extent.within backed _ _ c.pop_impl.ensures.value c.pop_impl.ensures.after;
+      means = pop_means v c.args.self.now.extent.within c.args.self.now.backed _ _ c.pop_impl.ensures.value c.pop_impl.ensures.after;
       untouched = c.pop_impl.ensures.untouched;
       beside = c.pop_impl.ensures.beside;
     }

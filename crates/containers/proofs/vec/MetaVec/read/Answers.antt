@@ -8,7 +8,7 @@ returns g c =
     record {
       value = c.read_impl.ensures.value;
       same = c.read_impl.ensures.same;
-      means = λ backed. read_means v c.args.self.now.extent.within backed c.args.place _ _ c.read_impl.ensures.value c.read_impl.ensures.same;
+      means = read_means v c.args.self.now.extent.within c.args.self.now.backed c.args.place _ _ c.read_impl.ensures.value c.read_impl.ensures.same;
       untouched = c.read_impl.ensures.untouched;
       beside = c.read_impl.ensures.beside;
     }

@@ -8,7 +8,7 @@ returns g c =
     record {
       value = c.write_impl.ensures.value;
       after = c.write_impl.ensures.after;
-      means = λ backed. write_means v c.args.self.now.extent.within backed c.args.place c.args.value _ _ c.write_impl.ensures.value c.write_impl.ensures.after;
+      means = write_means v c.args.self.now.extent.within c.args.self.now.backed c.args.place c.args.value _ _ c.write_impl.ensures.value c.write_impl.ensures.after;
       kept = c.write_impl.ensures.kept;
       beside = c.write_impl.ensures.beside;
     }
