@@ -2,7 +2,7 @@
 
 // The registers of a table: its capacity, the free list's first key, where the queue of waiting
 // slots starts and how many wait, and how many keys hold.
-#[derive(Clone, Copy)]
+#[derive(Clone, Copy, PartialEq, Eq, Debug)]
 pub struct Registers {
     pub capacity: u32,
     pub head: u32,

@@ -79,8 +79,7 @@ impl Plan {
         ensures unwritten { D.Row.stored result.«data» ≡ D.Row.stored rows.values }
         ensures outside { (X.Row.outside result.idx_to_data ≡ X.Row.outside rows.index) × ((L.Row.outside result.idx_to_data_free_list ≡ L.Row.outside rows.links) × ((D.Row.outside result.«data» ≡ D.Row.outside rows.values) × (Q.Row.outside result.data_next_free_index.row ≡ Q.Row.outside rows.slots))) }
     {
-        let Plan { capacity: asked } = self;
-        let capacity = capacity_over(asked, &mut rows);
+        let capacity = capacity_over(self.capacity, &mut rows);
         let Rows {
             mut index,
             mut links,

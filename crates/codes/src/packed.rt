@@ -75,8 +75,7 @@ impl<K: Coded, B: Row<Item = u8>> PackedRow<K, B> {
         ensures row { result ≡ self.bytes }
         ensures cells { B.Row.cells result ≡ B.Row.cells self.bytes }
     {
-        let PackedRow { bytes, kind: _ } = self;
-        bytes
+        self.bytes
     }
 }
 

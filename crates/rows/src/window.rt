@@ -41,12 +41,7 @@ impl<R: Row> WindowRow<R> {
         ensures row { result ≡ self.row }
         ensures cells { R.Row.cells result ≡ R.Row.cells self.row }
     {
-        let WindowRow {
-            row,
-            from: _,
-            most: _,
-        } = self;
-        row
+        self.row
     }
 }
 

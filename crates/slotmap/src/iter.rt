@@ -9,7 +9,7 @@ use cells::SlotMapKey;
 
 // The place where a walk goes on. The table is passed at each step, so that it can change between
 // two steps.
-#[derive(Clone, Copy)]
+#[derive(Clone, Copy, PartialEq, Eq, Debug)]
 pub struct Cursor {
     key: SlotMapKey,
 }
