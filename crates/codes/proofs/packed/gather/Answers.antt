@@ -5,12 +5,6 @@ use Rattle.rows.proofs.Cells.{read_gave, read_refused, get_d_window, length_wind
 use Rattle.codes.proofs.Groups.{gather_none, gather_more, gather_all}
 use Rattle.codes.proofs.packed.gather.Goals as goal
 
-pub loop-i-init : goal.loop-i-init
-loop-i-init g c = (c.zeros-string.ensures ∙ gather_none (window c.args.at g.A.ByteArray.size (g.B.Row.cells c.args.bytes.now)) _, refl, refl, refl)
-
-pub unreachable-requires : goal.unreachable-requires
-unreachable-requires g c = read_refused (g.B.Row.cells c.loop-i.bytes) (c.args.at + c.loop-i.i) c.in-Err.field-0 c.in-Err.ensures.value (let e = ap length c.loop-i.invariant.1 in omega arith)
-
 pub loop-i-preserved : goal.loop-i-preserved
 loop-i-preserved g c =
     let xs = g.B.Row.cells c.args.bytes.now in
@@ -26,16 +20,3 @@ loop-i-preserved g c =
       c.in-Ok.ensures.beside ∙ c.loop-i.invariant.2,
       c.in-Ok.ensures.untouched ∙ c.loop-i.invariant.3,
     )
-
-pub returns : goal.returns
-returns g c =
-    let xs = g.B.Row.cells c.args.bytes.now in
-    let n = g.A.ByteArray.size in
-    let sized = length_window c.args.at n xs in
-    let done : c.loop-i.i ≡ n = omega arith in
-    record {
-      value = c.loop-i.invariant.0 ∙ ap (paste (replicate n 0) 0 (window c.args.at n xs)) done ∙ gather_all (window c.args.at n xs) n (omega arith);
-      same = c.loop-i.invariant.1;
-      untouched = c.loop-i.invariant.3;
-      beside = c.loop-i.invariant.2;
-    }

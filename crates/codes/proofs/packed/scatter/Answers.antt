@@ -3,9 +3,6 @@ use lib.Seq.{paste}
 use Rattle.std.proofs.lemmas.List.Edits.{paste_none, paste_more}
 use Rattle.codes.proofs.packed.scatter.Goals as goal
 
-pub loop-i-init : goal.loop-i-init
-loop-i-init g c = (paste_none _ c.args.at (g.A.ByteArray.list c.args.string), refl)
-
 pub loop-i-preserved : goal.loop-i-preserved
 loop-i-preserved g c =
     let xs = g.B.Row.cells c.args.bytes.now in
@@ -17,11 +14,3 @@ loop-i-preserved g c =
           ∙ paste_more xs c.args.at string i 0 (omega arith) (omega arith),
       c.write.ensures.beside ∙ c.loop-i.invariant.1,
     )
-
-pub returns : goal.returns
-returns g c =
-    let done : c.loop-i.i ≡ g.A.ByteArray.size = omega arith in
-    record {
-      after = c.loop-i.invariant.0 ∙ ap (paste (g.B.Row.cells c.args.bytes.now) c.args.at (g.A.ByteArray.list c.args.string)) done;
-      beside = c.loop-i.invariant.1;
-    }

@@ -1,21 +1,13 @@
-use Rattle.std.proofs.Common.{length, ap, ◌∙◌, arith}
+use Rattle.std.proofs.Common.{length, ap, arith}
 use Rattle.model.proofs.Fresh.{fresh_laid}
 use Rattle.cells.proofs.plan.Plan.initialize_data_structures.Goals as goal
 
-pub returns : goal.returns
-returns g c =
+pub returns-clause-cells : goal.returns-clause-cells
+returns-clause-cells g c =
     let over = c.capacity_over-capacity.ensures in
     let made = c.with_capacity-queue.ensures.state in
     let sized = ap (λ q. q.capacity) made in
     let long = ap length over.slots.0 in
-    record {
-      cells =
-          fresh_laid c.capacity_over-capacity.result _ c.first_key-head.result _ _ _ _ _ _ _ _ _ _ _ _ _
-          over.value over.index.0 c.clear_index.ensures.after over.links.0 c.link_all.ensures.after over.values.0 c.first_key-head.ensures
-          (omega (arith, over.value)) (ap (λ q. q.cells) made) over.slots.0 c.queue_all.ensures.after;
-      unwritten = over.values.2;
-      outside = (
-        c.clear_index.ensures.beside ∙ over.index.1,
-        (c.link_all.ensures.beside ∙ over.links.1, (over.values.1, c.queue_all.ensures.beside ∙ c.with_capacity-queue.ensures.beside ∙ over.slots.1)),
-      );
-    }
+    fresh_laid c.capacity_over-capacity.result _ c.first_key-head.result _ _ _ _ _ _ _ _ _ _ _ _ _
+    over.value over.index.0 c.clear_index.ensures.after over.links.0 c.link_all.ensures.after over.values.0 c.first_key-head.ensures
+    (omega (arith, over.value)) (ap (λ q. q.cells) made) over.slots.0 c.queue_all.ensures.after
