@@ -1,4 +1,2 @@
 pub mod Latest
 pub mod Rounds
-pub mod Meanings
-pub mod Vectors

@@ -34,21 +34,7 @@ impl Position {
         ensures value { result ≡ (self.start + self.capacity - self.len + index) % self.capacity }
         ensures bound { result < self.capacity }
     {
-        let place = self.start + self.capacity - self.len + index;
-        if place < self.capacity {
-            place
-        } else {
-            place - self.capacity
-        }
-    }
-
-    // The place after `start`.
-    fn after_start(self) -> u32
-        requires { 0 < self.capacity }
-        ensures { result ≡ (self.start + 1) % self.capacity }
-    {
-        let place = self.start + 1;
-        if place < self.capacity { place } else { 0 }
+        (self.start + self.capacity - self.len + index) % self.capacity
     }
 
     // One element more, at `start`.
@@ -60,14 +46,13 @@ impl Position {
     {
         Position {
             capacity: self.capacity,
-            start: self.after_start(),
+            start: (self.start + 1) % self.capacity,
             len: self.len + 1,
         }
     }
 
-    // The oldest element is gone.
+    // The oldest element is gone, if there was one.
     pub(crate) fn popped(self) -> Position
-        requires { 0 < self.len }
         ensures capacity { result.capacity ≡ self.capacity }
         ensures start { result.start ≡ self.start }
         ensures len { result.len ≡ self.len - 1 }
@@ -75,7 +60,7 @@ impl Position {
         Position {
             capacity: self.capacity,
             start: self.start,
-            len: self.len - 1,
+            len: self.len.saturating_sub(1),
         }
     }
 

@@ -45,8 +45,7 @@ impl<R: Row> MetaQueue<R> {
         ensures row { result ≡ self.row }
         ensures cells { R.Row.cells result ≡ R.Row.cells self.row }
     {
-        let MetaQueue { row, position: _ } = self;
-        row
+        self.row
     }
 
     // The element `index` from the oldest; refused at or past the length.
@@ -57,7 +56,11 @@ impl<R: Row> MetaQueue<R> {
         ensures untouched { R.Row.stored self.new.row ≡ R.Row.stored self.old.row }
         ensures beside { R.Row.outside self.new.row ≡ R.Row.outside self.old.row }
     {
-        self.get_impl(index)
+        if index < self.len() as usize {
+            self.row.read(self.position.place_of(index as u32) as usize)
+        } else {
+            Err(Refusal::PlacePastLength)
+        }
     }
 
     // True where nothing is held.
@@ -115,7 +118,11 @@ impl<R: Row> MetaQueue<R> {
         ensures untouched { R.Row.stored self.new.row ≡ R.Row.stored self.old.row }
         ensures beside { R.Row.outside self.new.row ≡ R.Row.outside self.old.row }
     {
-        self.peek_impl()
+        if self.is_empty() {
+            return Ok(None);
+        }
+        let oldest = self.row.read(self.position.place_of(0) as usize)?;
+        Ok(Some(oldest))
     }
 
     // Takes the oldest element out.
@@ -126,7 +133,9 @@ impl<R: Row> MetaQueue<R> {
         ensures untouched { R.Row.stored self.new.row ≡ R.Row.stored self.old.row }
         ensures beside { R.Row.outside self.new.row ≡ R.Row.outside self.old.row }
     {
-        self.pop_impl()
+        let oldest = self.peek()?;
+        self.position = self.position.popped();
+        Ok(oldest)
     }
 
     // Adds `value` behind the newest element; refused where the queue is full.
@@ -137,7 +146,12 @@ impl<R: Row> MetaQueue<R> {
         ensures kept { is_ok result ≡ false → R.Row.stored self.new.row ≡ R.Row.stored self.old.row }
         ensures beside { R.Row.outside self.new.row ≡ R.Row.outside self.old.row }
     {
-        self.push_impl(value)
+        if self.is_full() {
+            return Err(Refusal::NoSpace);
+        }
+        self.row.write(self.position.start as usize, value)?;
+        self.position = self.position.pushed();
+        Ok(())
     }
 
     // Adds `value` behind the newest element; where the queue is full, the oldest has to go and
@@ -149,85 +163,12 @@ impl<R: Row> MetaQueue<R> {
         ensures kept { is_ok result ≡ false → R.Row.stored self.new.row ≡ R.Row.stored self.old.row }
         ensures beside { R.Row.outside self.new.row ≡ R.Row.outside self.old.row }
     {
-        self.push_with_overflow_impl(value)
-    }
-}
-
-// What the calls do to the cells and the position, whatever the cells are.
-impl<R: Row> MetaQueue<R> {
-    ghost use Rattle.containers.specs.Queues.{queue, contents, empty, cleared, Backed, pushed, popped, overflowed, push_answer, oldest_answer, overflow_answer, get_answer};
-
-    fn get_impl(&mut self, index: usize) -> Result<R::Item, Refusal>
-        ensures value { result ≡ get_answer (queue R.Row.cells self.old) index }
-        ensures same { (queue R.Row.cells self.new) ≡ (queue R.Row.cells self.old) }
-        ensures untouched { R.Row.stored self.new.row ≡ R.Row.stored self.old.row }
-        ensures beside { R.Row.outside self.new.row ≡ R.Row.outside self.old.row }
-    {
-        if index < self.position.len as usize {
-            self.row.read(self.position.place_of(index as u32) as usize)
-        } else {
-            Err(Refusal::PlacePastLength)
-        }
-    }
-
-    fn peek_impl(&mut self) -> Result<Option<R::Item>, Refusal>
-        ensures value { result ≡ oldest_answer (queue R.Row.cells self.old) }
-        ensures same { (queue R.Row.cells self.new) ≡ (queue R.Row.cells self.old) }
-        ensures untouched { R.Row.stored self.new.row ≡ R.Row.stored self.old.row }
-        ensures beside { R.Row.outside self.new.row ≡ R.Row.outside self.old.row }
-    {
-        if self.position.len == 0 {
-            return Ok(None);
-        }
-        let oldest = self.row.read(self.position.place_of(0) as usize)?;
-        Ok(Some(oldest))
-    }
-
-    fn pop_impl(&mut self) -> Result<Option<R::Item>, Refusal>
-        ensures value { result ≡ oldest_answer (queue R.Row.cells self.old) }
-        ensures after { (queue R.Row.cells self.new) ≡ (if is_ok result then popped (queue R.Row.cells self.old) else queue R.Row.cells self.old) }
-        ensures untouched { R.Row.stored self.new.row ≡ R.Row.stored self.old.row }
-        ensures beside { R.Row.outside self.new.row ≡ R.Row.outside self.old.row }
-    {
-        let oldest = self.peek_impl()?;
-        if self.position.len > 0 {
-            self.position = self.position.popped();
-        }
-        Ok(oldest)
-    }
-
-    fn push_impl(&mut self, value: R::Item) -> Result<(), Refusal>
-        ensures value { result ≡ push_answer (queue R.Row.cells self.old) }
-        ensures after { (queue R.Row.cells self.new) ≡ (if is_ok result then pushed (queue R.Row.cells self.old) value else queue R.Row.cells self.old) }
-        ensures kept { is_ok result ≡ false → R.Row.stored self.new.row ≡ R.Row.stored self.old.row }
-        ensures beside { R.Row.outside self.new.row ≡ R.Row.outside self.old.row }
-    {
-        if self.position.len == self.position.capacity {
-            return Err(Refusal::NoSpace);
-        }
-        self.row.write(self.position.start as usize, value)?;
-        self.position = self.position.pushed();
-        Ok(())
-    }
-
-    fn push_with_overflow_impl(&mut self, value: R::Item) -> Result<Option<R::Item>, Refusal>
-        ensures value { result ≡ overflow_answer (queue R.Row.cells self.old) }
-        ensures after { (queue R.Row.cells self.new) ≡ (if is_ok result then overflowed (queue R.Row.cells self.old) value else queue R.Row.cells self.old) }
-        ensures kept { is_ok result ≡ false → R.Row.stored self.new.row ≡ R.Row.stored self.old.row }
-        ensures beside { R.Row.outside self.new.row ≡ R.Row.outside self.old.row }
-    {
-        if self.position.capacity == 0 {
+        if self.capacity() == 0 {
             return Err(Refusal::NoCell);
         }
-        if self.position.len < self.position.capacity {
-            self.push_impl(value)?;
-            return Ok(None);
-        }
-        let place = self.position.start as usize;
-        let oldest = self.row.read(place)?;
-        self.row.write(place, value)?;
-        self.position = self.position.popped().pushed();
-        Ok(Some(oldest))
+        let oldest = if self.is_full() { self.pop()? } else { None };
+        self.push(value)?;
+        Ok(oldest)
     }
 }
 

@@ -36,8 +36,7 @@ impl<R: Row> MetaVec<R> {
         ensures row { result ≡ self.row }
         ensures cells { R.Row.cells result ≡ R.Row.cells self.row }
     {
-        let MetaVec { row, extent: _ } = self;
-        row
+        self.row
     }
 
     // How many elements can be held.
@@ -79,7 +78,13 @@ impl<R: Row> MetaVec<R> {
         ensures kept { is_ok result ≡ false → R.Row.stored self.new.row ≡ R.Row.stored self.old.row }
         ensures beside { R.Row.outside self.new.row ≡ R.Row.outside self.old.row }
     {
-        self.push_impl(value)
+        if self.is_full() {
+            return Err(Refusal::NoSpace);
+        }
+        let len = self.len();
+        self.row.write(len as usize, value)?;
+        self.extent = self.extent.resized(len + 1);
+        Ok(())
     }
 
     // Lets all elements go.
@@ -99,7 +104,12 @@ impl<R: Row> MetaVec<R> {
         ensures untouched { R.Row.stored self.new.row ≡ R.Row.stored self.old.row }
         ensures beside { R.Row.outside self.new.row ≡ R.Row.outside self.old.row }
     {
-        self.pop_impl()
+        let Some(len) = self.len().checked_sub(1) else {
+            return Ok(None);
+        };
+        let last = self.row.read(len as usize)?;
+        self.extent = self.extent.resized(len);
+        Ok(Some(last))
     }
 
     // The element at `place`; refused at or past the length.
@@ -110,7 +120,11 @@ impl<R: Row> MetaVec<R> {
         ensures untouched { R.Row.stored self.new.row ≡ R.Row.stored self.old.row }
         ensures beside { R.Row.outside self.new.row ≡ R.Row.outside self.old.row }
     {
-        self.read_impl(place)
+        if place < self.len() as usize {
+            self.row.read(place)
+        } else {
+            Err(Refusal::PlacePastLength)
+        }
     }
 
     // Stores `value` in the element at `place`; refused at or past the length.
@@ -121,64 +135,7 @@ impl<R: Row> MetaVec<R> {
         ensures kept { is_ok result ≡ false → R.Row.stored self.new.row ≡ R.Row.stored self.old.row }
         ensures beside { R.Row.outside self.new.row ≡ R.Row.outside self.old.row }
     {
-        self.write_impl(place, value)
-    }
-}
-
-// What the calls do to the cells and the extent, whatever the cells are.
-impl<R: Row> MetaVec<R> {
-    ghost use Rattle.containers.specs.Vectors.{vector, contents, with, Backed, push_answer, pop_answer, read_answer, write_answer};
-
-    fn push_impl(&mut self, value: R::Item) -> Result<(), Refusal>
-        ensures value { result ≡ push_answer (vector R.Row.cells self.old) }
-        ensures after { (vector R.Row.cells self.new) ≡ (if is_ok result then with (vector R.Row.cells self.old) ((vector R.Row.cells self.old).len + 1) (slice_set (vector R.Row.cells self.old).cells (vector R.Row.cells self.old).len value) else vector R.Row.cells self.old) }
-        ensures kept { is_ok result ≡ false → R.Row.stored self.new.row ≡ R.Row.stored self.old.row }
-        ensures beside { R.Row.outside self.new.row ≡ R.Row.outside self.old.row }
-    {
-        let len = self.extent.len;
-        if len == self.extent.capacity {
-            return Err(Refusal::NoSpace);
-        }
-        self.row.write(len as usize, value)?;
-        self.extent = self.extent.resized(len + 1);
-        Ok(())
-    }
-
-    fn pop_impl(&mut self) -> Result<Option<R::Item>, Refusal>
-        ensures value { result ≡ pop_answer (vector R.Row.cells self.old) }
-        ensures after { (vector R.Row.cells self.new) ≡ (if is_ok result then with (vector R.Row.cells self.old) ((vector R.Row.cells self.old).len - 1) (vector R.Row.cells self.old).cells else vector R.Row.cells self.old) }
-        ensures untouched { R.Row.stored self.new.row ≡ R.Row.stored self.old.row }
-        ensures beside { R.Row.outside self.new.row ≡ R.Row.outside self.old.row }
-    {
-        if self.extent.len == 0 {
-            return Ok(None);
-        }
-        let len = self.extent.len - 1;
-        let last = self.row.read(len as usize)?;
-        self.extent = self.extent.resized(len);
-        Ok(Some(last))
-    }
-
-    fn read_impl(&mut self, place: usize) -> Result<R::Item, Refusal>
-        ensures value { result ≡ read_answer (vector R.Row.cells self.old) place }
-        ensures same { (vector R.Row.cells self.new) ≡ (vector R.Row.cells self.old) }
-        ensures untouched { R.Row.stored self.new.row ≡ R.Row.stored self.old.row }
-        ensures beside { R.Row.outside self.new.row ≡ R.Row.outside self.old.row }
-    {
-        if place < self.extent.len as usize {
-            self.row.read(place)
-        } else {
-            Err(Refusal::PlacePastLength)
-        }
-    }
-
-    fn write_impl(&mut self, place: usize, value: R::Item) -> Result<(), Refusal>
-        ensures value { result ≡ write_answer (vector R.Row.cells self.old) place }
-        ensures after { (vector R.Row.cells self.new) ≡ with (vector R.Row.cells self.old) (vector R.Row.cells self.old).len (if is_ok result then slice_set (vector R.Row.cells self.old).cells place value else (vector R.Row.cells self.old).cells) }
-        ensures kept { is_ok result ≡ false → R.Row.stored self.new.row ≡ R.Row.stored self.old.row }
-        ensures beside { R.Row.outside self.new.row ≡ R.Row.outside self.old.row }
-    {
-        if place < self.extent.len as usize {
+        if place < self.len() as usize {
             self.row.write(place, value)
         } else {
             Err(Refusal::PlacePastLength)

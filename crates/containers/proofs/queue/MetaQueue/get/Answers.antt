@@ -1,14 +1,13 @@
-use Rattle.containers.specs.Queues.{queue}
-use Rattle.containers.proofs.Meanings.{get_means}
+use Rattle.std.proofs.Common.{arith, rules}
+use Rattle.containers.specs.Queues.{queue, contents}
+use Rattle.containers.proofs.Rounds.{length_contents, nth_contents, nth_some}
 use Rattle.containers.proofs.queue.MetaQueue.get.Goals as goal
 
-pub returns : goal.returns
-returns g c =
-    let q = queue g.R.Row.cells c.args.self.now in
-    record {
-      value = c.get_impl.ensures.value;
-      same = c.get_impl.ensures.same;
-      means = get_means q c.args.self.now.position.begins c.args.self.now.position.within c.args.self.now.backed c.args.index _ _ c.get_impl.ensures.value c.get_impl.ensures.same;
-      untouched = c.get_impl.ensures.untouched;
-      beside = c.get_impl.ensures.beside;
-    }
+pub returns-then-index-len-clause-means : goal.returns-then-index-len-clause-means
+returns-then-index-len-clause-means g c =
+    let s = c.args.self.now in
+    let q = queue g.R.Row.cells s in
+    let sized = length_contents q s.position.within s.backed in
+    let held = nth_contents q s.position.within s.backed c.args.index (omega (arith, c.if-index-len.true)) in
+    let some = nth_some (contents q) c.args.index (omega (arith, sized, c.if-index-len.true)) in
+    search rules

@@ -1,14 +1,10 @@
+use Rattle.std.proofs.Common.{rules}
 use Rattle.containers.specs.Queues.{queue}
-use Rattle.containers.proofs.Meanings.{pop_means}
+use Rattle.containers.proofs.Rounds.{contents_popped}
 use Rattle.containers.proofs.queue.MetaQueue.pop.Goals as goal
 
-pub returns : goal.returns
-returns g c =
-    let q = queue g.R.Row.cells c.args.self.now in
-    record {
-      value = c.pop_impl.ensures.value;
-      after = c.pop_impl.ensures.after;
-      means = pop_means q c.args.self.now.position.begins c.args.self.now.position.within c.args.self.now.backed _ _ c.pop_impl.ensures.value c.pop_impl.ensures.after;
-      untouched = c.pop_impl.ensures.untouched;
-      beside = c.pop_impl.ensures.beside;
-    }
+pub returns-clause-means : goal.returns-clause-means
+returns-clause-means g c =
+    let s = c.args.self.now in
+    let held = contents_popped (queue g.R.Row.cells s) s.position.begins s.position.within s.backed in
+    search rules

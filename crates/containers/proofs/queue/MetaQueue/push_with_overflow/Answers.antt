@@ -1,14 +1,17 @@
-use Rattle.containers.specs.Queues.{queue}
-use Rattle.containers.proofs.Meanings.{overflow_means}
+use Rattle.std.proofs.Common.{rules, ◌≡◌, ◌+◌, ◌-◌, ◌%◌, ap, ◌∙◌, arith}
+use Rattle.containers.proofs.Rounds.{wrap_below}
 use Rattle.containers.proofs.queue.MetaQueue.push_with_overflow.Goals as goal
+use Rattle.containers.proofs.queue.MetaQueue.push_with_overflow.Goals.{then-is_full+in_ok-oldest, else-is_full}
 
-pub returns : goal.returns
-returns g c =
-    let q = queue g.R.Row.cells c.args.self.now in
-    record {
-      value = c.push_with_overflow_impl.ensures.value;
-      after = c.push_with_overflow_impl.ensures.after;
-      means = overflow_means q c.args.self.now.position.begins c.args.self.now.position.within c.args.self.now.backed c.args.value _ _ c.push_with_overflow_impl.ensures.value c.push_with_overflow_impl.ensures.after;
-      kept = c.push_with_overflow_impl.ensures.kept;
-      beside = c.push_with_overflow_impl.ensures.beside;
-    }
+-- the oldest element of a full queue lies at start
+pub returns-clause-value : goal.returns-clause-value
+returns-clause-value g c =
+    let p = c.args.self.now.position in
+    elim c.if-is_full.branch [
+      | then-is_full+in_ok-oldest w ↦
+          let full : p.len ≡ p.capacity = search rules in
+          let around : p.start + p.capacity - p.len + 0 ≡ p.start = omega arith in
+          let first = ap (λ x. x % p.capacity) around ∙ wrap_below p.start p.capacity (omega arith) in
+          search rules
+      | else-is_full w ↦ search rules
+    ]

@@ -1,14 +1,10 @@
-use Rattle.containers.specs.Vectors.{vector}
-use Rattle.containers.proofs.Vectors.{write_means}
+use Rattle.std.proofs.Common.{◌≤◌, length, arith, rules}
+use lib.Seq.{take-set-lt}
 use Rattle.containers.proofs.vec.MetaVec.write.Goals as goal
 
-pub returns : goal.returns
-returns g c =
-    let v = vector g.R.Row.cells c.args.self.now in
-    record {
-      value = c.write_impl.ensures.value;
-      after = c.write_impl.ensures.after;
-      means = write_means v c.args.self.now.extent.within c.args.self.now.backed c.args.place c.args.value _ _ c.write_impl.ensures.value c.write_impl.ensures.after;
-      kept = c.write_impl.ensures.kept;
-      beside = c.write_impl.ensures.beside;
-    }
+-- an element below the length is set alike among all cells
+pub returns-then-place-len-clause-means : goal.returns-then-place-len-clause-means
+returns-then-place-len-clause-means g c =
+    let s = c.args.self.now in
+    let long : s.extent.len ≤ length (g.R.Row.cells s.row) = omega arith in
+    search (rules, take-set-lt)
