@@ -55,8 +55,7 @@ fn carry_out_lines(
 ) -> Result<(), AllocError>
     ensures { (t : Table ℕ) → Means (keys_layout table.old) t → OnOk result (string_bytes out.new ≡ string_bytes out.old ++ printed t (lines text.now)) }
 {
-    let mut reader = LineReader::new(text);
-    while let Some(line) = reader.next_line() {
+    for line in LineReader::new(text) {
         carry_out_line(heap, out, table, line)?;
     }
     Ok(())

@@ -1,3 +1,4 @@
 pub mod Splits
 pub mod Scans
+pub mod Numerals
 pub mod Ends

@@ -2,6 +2,8 @@
 ghost use Rattle.std.specs.Prelude.{◌≡◌};
 ghost use Rattle.text.specs.Numbers.{number_of};
 
+use std::str;
+
 // The most digits that a number is written with.
 const MOST_DIGITS: usize = 10;
 
@@ -9,19 +11,8 @@ const MOST_DIGITS: usize = 10;
 pub fn number(line: &[u8]) -> Option<u32>
     ensures { result ≡ number_of line.now }
 {
-    if line.len() == 0 || line.len() > MOST_DIGITS {
+    if line.len() > MOST_DIGITS || !line.iter().all(|b| b.is_ascii_digit()) {
         return None;
     }
-    let mut value: u64 = 0;
-    for byte in line {
-        if !byte.is_ascii_digit() {
-            return None;
-        }
-        value = value * 10 + (*byte - b'0') as u64;
-    }
-    if value <= u32::MAX as u64 {
-        Some(value as u32)
-    } else {
-        None
-    }
+    str::from_utf8(line).ok()?.parse().ok()
 }

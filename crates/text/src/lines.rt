@@ -1,7 +1,5 @@
 // The lines of a text, one after another.
-ghost use Rattle.std.specs.Prelude.{◌≡◌, ℕ, ◌-◌, ◌<◌, ◌≤◌, ◌++◌, length, is_some, ◌≢◌, nat_lt, slice_index};
-ghost use Rattle.std.specs.Option.{option_map, option_to_list};
-ghost use Rattle.std.specs.Bool.{then_some};
+ghost use Rattle.std.specs.Prelude.{◌≡◌, ◌<◌, ◌^◌, length};
 ghost use Rattle.text.specs.Lines.{lines, first_line, after_line};
 
 // The byte that ends a line.
@@ -11,20 +9,19 @@ const LINE_END: u8 = 10;
 #[derive(Drop)]
 pub struct LineReader<'a> {
     rest: &'a [u8],
+    // So that a count of the lines fits.
+    ghost fits: { length (lines rest.now) < 2 ^ 64 },
 }
 
-// Where the first line of `text` ends: the place of its end byte, or the text's length.
-fn first_end(text: &[u8]) -> usize
-    ensures within { result ≤ length text.now }
-    ensures before { (k : ℕ) → k < result → slice_index text.now k ≢ 10 }
-    ensures found { result < length text.now → slice_index text.now result ≡ 10 }
+// The first line of `text`, and what follows its end.
+fn split_line(text: &[u8]) -> (&[u8], &[u8])
+    ensures line { result.0.now ≡ first_line text.now }
+    ensures rest { result.1.now ≡ after_line text.now }
 {
-    for (i, byte) in text.iter().enumerate() {
-        if *byte == LINE_END {
-            return i;
-        }
+    match text.iter().position(|b| *b == LINE_END) {
+        Some(end) => (&text[..end], &text[end + 1..]),
+        None => (text, &[]),
     }
-    text.len()
 }
 
 impl<'a> LineReader<'a> {
@@ -34,25 +31,25 @@ impl<'a> LineReader<'a> {
     {
         LineReader { rest: text }
     }
+}
+
+impl<'a> Iterator for LineReader<'a> {
+    ghost use Rattle.std.specs.Iterator.{item_count};
+    ghost use Rattle.text.specs.Readers.{ReadsLine, lines_left};
+
+    type Item = &'a [u8];
+
+    ghost next_gives = { ReadsLine };
+
+    ghost remaining = { item_count lines_left };
 
     // The next line without its end, or none where no text is left.
-    pub fn next_line(&mut self) -> Option<&'a [u8]>
-        ensures value { option_map (λ x. x.now) result ≡ then_some (nat_lt 0 (length self.old.rest.now)) (first_line self.old.rest.now) }
-        ensures rest { self.new.rest.now ≡ after_line self.old.rest.now }
-        ensures lines { lines self.old.rest.now ≡ option_to_list (option_map (λ x. x.now) result) ++ lines self.new.rest.now }
-        ensures test { is_some result ≡ nat_lt 0 (length self.old.rest.now) }
-        ensures shorter { length self.new.rest.now ≤ length self.old.rest.now - 1 }
-    {
-        let text = self.rest;
-        if text.len() == 0 {
+    fn next(&mut self) -> Option<&'a [u8]> {
+        if self.rest.is_empty() {
             return None;
         }
-        let end = first_end(text);
-        if end < text.len() {
-            self.rest = &text[end + 1..text.len()];
-        } else {
-            self.rest = &text[end..text.len()];
-        }
-        Some(&text[0..end])
+        let (line, rest) = split_line(self.rest);
+        self.rest = rest;
+        Some(line)
     }
 }

@@ -1,55 +1,29 @@
-use Rattle.std.proofs.Common.{◌+◌, ◌++◌, length, string_bytes, sym, refl, ap, ◌∙◌, arith}
-use Rattle.std.proofs.lemmas.Bool.{ltb-true}
-use Rattle.containers.specs.Bounded.{latest}
+use Rattle.std.proofs.Common.{string_bytes, sym, ◌∙◌, arith}
+use Rattle.std.specs.Iterator.Adapters.{enumerate_source}
 use Rattle.containers.specs.Queues.{queue, contents}
 use Rattle.containers.proofs.Rounds.{length_contents}
-use Rattle.text.specs.Lines.{lines}
-use Rattle.recents.specs.Recent.{numbers, complaints}
-use Rattle.recents.proofs.Steps.{held_more, said_more, held_all, said_all}
-use Rattle.text.proofs.Ends.{no_lines}
+use Rattle.text.specs.Readers.{lines_left}
+use Rattle.recents.proofs.Steps.{held_more, said_more, held_all}
 use Rattle.recents.proofs.notes.note_lines.Goals as goal
 
-pub loop-line-init : goal.loop-line-init
-loop-line-init g c =
-    let q = queue g.R.Row.cells c.args.queue.now in (
-      refl,
-      omega (arith, ap length c.new-reader.ensures),
-      ap (λ text. latest q.capacity (contents q ++ numbers (lines text))) c.new-reader.ensures,
-      ap (λ text. string_bytes c.args.err.now ++ complaints 1 (lines text)) c.new-reader.ensures,
-    )
-
-pub overflow_add-place : goal.overflow_add-place
-overflow_add-place g c = omega (arith, ltb-true 0 (length c.loop-line.reader.rest.now) (sym c.in-Some.ensures.test))
-
-pub loop-line-smaller : goal.loop-line-smaller
-loop-line-smaller g c = omega (arith, ltb-true 0 (length c.loop-line.reader.rest.now) (sym c.in-Some.ensures.test), c.in-Some.ensures.shorter)
-
-pub loop-line-preserved : goal.loop-line-preserved
-loop-line-preserved g c =
-    let q = queue g.R.Row.cells c.loop-line.queue in
+pub loop-i-preserved : goal.loop-i-preserved
+loop-i-preserved g c =
+    let q = queue g.R.Row.cells c.loop-i.queue in
     let after = queue g.R.Row.cells c.note.new.queue in
-    let line = c.in-Some.line.now in
-    let rest = lines c.next_line.new.self.rest.now in
-    let read = c.in-Some.ensures.lines in
+    let left = lines_left (enumerate_source c.loop-i.i-iterator) in
+    let rest = lines_left (enumerate_source c.next.new.self) in
+    let read = c.in-Some.ensures.steps in
     let noted = c.in_ok-note.ensures in
-    let some = ltb-true 0 (length c.loop-line.reader.rest.now) (sym c.in-Some.ensures.test) in (
-      noted.capacity ∙ c.loop-line.invariant.0,
-      omega (arith, c.in-Some.ensures.shorter),
-      ap (λ n. latest n (contents after ++ numbers rest)) noted.capacity
-          ∙ held_more q.capacity (contents q) (contents after) line rest noted.held
-          ∙ ap (λ ls. latest q.capacity (contents q ++ numbers ls)) (sym read)
-          ∙ c.loop-line.invariant.2,
-      said_more (string_bytes c.loop-line.err) (string_bytes c.note.new.err) (c.loop-line.place + 1) line rest noted.err
-          ∙ ap (λ ls. string_bytes c.loop-line.err ++ complaints (c.loop-line.place + 1) ls) (sym read)
-          ∙ c.loop-line.invariant.3,
-    )
-
-pub returns : goal.returns
-returns g c =
-    let q = queue g.R.Row.cells c.loop-line.queue in
-    let rest = no_lines c.loop-line.reader.rest.now c.in_default.ensures.test in
-    let sized = length_contents q c.loop-line.queue.position.within c.loop-line.queue.backed in
     record {
-      held = sym (held_all q.capacity (contents q) (lines c.loop-line.reader.rest.now) (omega arith) rest) ∙ c.loop-line.invariant.2;
-      err = sym (said_all (string_bytes c.loop-line.err) (c.loop-line.place + 1) (lines c.loop-line.reader.rest.now) rest) ∙ c.loop-line.invariant.3;
+      capacity = noted.capacity ∙ c.loop-i.invariant.capacity;
+      held = held_more q.capacity after.capacity (contents q) (contents after) c.in-Some.line.now left rest noted.capacity noted.held read.0.lines ∙ c.loop-i.invariant.held;
+      said =
+          said_more (string_bytes c.loop-i.err) (string_bytes c.note.new.err) c.in-Some.i _ _ c.in-Some.line.now left rest read.1 read.2 noted.err read.0.lines
+          ∙ c.loop-i.invariant.said;
     }
+
+pub returns-clause-held : goal.returns-clause-held
+returns-clause-held g c =
+    let q = queue g.R.Row.cells c.loop-i.queue in
+    let sized = length_contents q c.loop-i.queue.position.within c.loop-i.queue.backed in
+    sym (held_all q.capacity (contents q) _ (omega arith) c.in-None.ensures.steps.0.lines.0) ∙ c.loop-i.invariant.held

@@ -1,16 +1,14 @@
-use Rattle.std.proofs.Common.{◌≡◌, ℕ, ◌++◌, length, string_bytes}
+use Rattle.std.proofs.Common.{◌≡◌, ℕ, ◌++◌, string_bytes}
 use Rattle.model.specs.Sound.{Means}
 use Rattle.model.specs.Tables.{Table}
 use Rattle.text.specs.Lines.{lines}
+use Rattle.text.specs.Readers.{lines_left}
 use Rattle.script.specs.Transcript.{printed, keys_layout}
 use Rattle.script.proofs.transcript.carry_out_lines.Given as goal
 
--- what is left of the text leads, from the table as it is, to what the whole text leads to
+-- the lines that are left lead, from the table as it is, to what the whole text leads to
 abbrev pub invariant-loop-line : goal.invariant-loop-line
 invariant-loop-line l =
     (t₀ : Table ℕ) → Means (keys_layout l.initial.table) t₀
     → (t : Table ℕ) × Means (keys_layout l.table) t
-    × (string_bytes l.out ++ printed t (lines l.reader.rest.now) ≡ string_bytes l.initial.out ++ printed t₀ (lines l.text))
-
-abbrev pub decreases-loop-line : goal.decreases-loop-line
-decreases-loop-line l = length l.reader.rest.now
+    × (string_bytes l.out ++ printed t (lines_left l.line-iterator) ≡ string_bytes l.initial.out ++ printed t₀ (lines l.text))

@@ -1,35 +1,29 @@
-use Rattle.std.proofs.Common.{sym, refl, ◌∙◌, arith}
-use Rattle.std.proofs.lemmas.List.{at_drop_all}
-use Rattle.text.proofs.Scans.{scan, scan_more, scan_stops, digits_fit, digits_more, number_none, number_some, number_large}
+use Rattle.std.proofs.Common.{rules, tests, ◌≡◌, sym, ◌∙◌, arith}
+use Rattle.std.proofs.lemmas.Iterator.{YieldsList-from_slice}
+use Rattle.std.proofs.lemmas.Iterator.Search.{all_from_yields_List}
+use Rattle.std.specs.Char.{is_ascii_digit}
+use Rattle.text.proofs.Numerals.{digits_all, digits_text, number_long, number_other, number_parsed}
 use Rattle.text.proofs.decimal.number.Goals as goal
+use Rattle.text.proofs.decimal.number.Goals.{then-line-gt-MOST_DIGITS-via-then-line-gt-MOST_DIGITS, then-line-gt-MOST_DIGITS-via-else-line-gt-MOST_DIGITS+then-not-all}
 
-pub loop-byte-init : goal.loop-byte-init
-loop-byte-init c = (refl, omega arith)
+pub returns-then-line-gt-MOST_DIGITS : goal.returns-then-line-gt-MOST_DIGITS
+returns-then-line-gt-MOST_DIGITS c = elim c.then-line-gt-MOST_DIGITS.branch [
+  | then-line-gt-MOST_DIGITS-via-then-line-gt-MOST_DIGITS w ↦ number_long c.args.line.now w.if-line-gt-MOST_DIGITS.true
+  | then-line-gt-MOST_DIGITS-via-else-line-gt-MOST_DIGITS+then-not-all w ↦
+      let all = all_from_yields_List is_ascii_digit _ _ w.all.result w.all.ensures.ran (YieldsList-from_slice c.args.line.now cc) (λ x b q k. search (rules, tests)) in
+      number_other c.args.line.now (sym (digits_all c.args.line.now) ∙ sym all ∙ w.if-not-all.true)
+]
 
-pub returns-then-not-is_ascii_digit : goal.returns-then-not-is_ascii_digit
-returns-then-not-is_ascii_digit c =
-    let stops = scan_stops c.loop-byte.value c.args.line.now c.loop-byte.byte-index c.loop-byte-test.true (sym c.if-not-is_ascii_digit.ensures.value) in
-    number_none c.args.line.now (sym c.loop-byte.invariant.0 ∙ stops)
+pub returns-in_err-ok : goal.returns-in_err-ok
+returns-in_err-ok c =
+    let all = all_from_yields_List is_ascii_digit _ _ c.all.result c.all.ensures.ran (YieldsList-from_slice c.args.line.now cc) (λ x b q k. search (rules, tests)) in
+    let utf8 = digits_text c.args.line.now (sym (digits_all c.args.line.now) ∙ sym all ∙ c.if-not-all.false) in
+    let never : ⊥ = grind (arith, utf8) in
+    absurd never
 
-pub overflow_mul-value : goal.overflow_mul-value
-overflow_mul-value c = omega (arith, digits_fit c.loop-byte.value c.loop-byte.byte-index c.loop-byte.invariant.1 (omega arith))
-
-pub overflow_add-value : goal.overflow_add-value
-overflow_add-value c = omega (arith, digits_fit c.loop-byte.value c.loop-byte.byte-index c.loop-byte.invariant.1 (omega arith))
-
-pub loop-byte-preserved : goal.loop-byte-preserved
-loop-byte-preserved c =
-    let digit = c.if-not-is_ascii_digit.ensures.cases in (
-      sym (scan_more c.loop-byte.value c.args.line.now c.loop-byte.byte-index c.loop-byte-test.true digit.0 digit.1) ∙ c.loop-byte.invariant.0,
-      digits_more c.loop-byte.value c.loop-byte.byte-index _ c.loop-byte.invariant.1 (omega arith),
-    )
-
-pub returns-then-value : goal.returns-then-value
-returns-then-value c =
-    number_some c.args.line.now c.loop-byte.value
-    (sym c.loop-byte.invariant.0 ∙ at_drop_all (scan c.loop-byte.value) c.args.line.now c.loop-byte.byte-index (omega arith)) (omega arith) (omega arith) (omega arith)
-
-pub returns-else-value : goal.returns-else-value
-returns-else-value c =
-    number_large c.args.line.now c.loop-byte.value
-    (sym c.loop-byte.invariant.0 ∙ at_drop_all (scan c.loop-byte.value) c.args.line.now c.loop-byte.byte-index (omega arith)) (omega arith)
+pub returns : goal.returns
+returns c =
+    let line = c.args.line.now in
+    let all = all_from_yields_List is_ascii_digit _ _ c.all.result c.all.ensures.ran (YieldsList-from_slice line cc) (λ x b q k. search (rules, tests)) in
+    let same : c.in_ok-ok.field-0.now ≡ line = grind arith in
+    c.ok-2.ensures.value ∙ number_parsed line c.parse.result (sym (digits_all line) ∙ sym all ∙ c.if-not-all.false) c.if-line-gt-MOST_DIGITS.false (rw same at c.parse.ensures.value.0)

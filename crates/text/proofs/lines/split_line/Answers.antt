@@ -1,0 +1,15 @@
+use Rattle.std.proofs.Common.{◌+◌, ◌∙◌, rules}
+use Rattle.std.proofs.lemmas.List.{take_rest}
+use Rattle.text.proofs.Splits.{first_ends, first_only}
+use Rattle.text.proofs.lines.split_line.Goals as goal
+
+pub returns-in-Some : goal.returns-in-Some
+returns-in-Some c =
+    let text = c.args.text.now in
+    let parts = first_ends text c.in-Some.end (search rules) (search rules) (search rules) in
+    record { line = parts.0; rest = take_rest text (c.in-Some.end + 1) ∙ parts.1 }
+
+pub returns-in-None : goal.returns-in-None
+returns-in-None c =
+    let parts = first_only c.args.text.now (search rules) in
+    record { line = parts.0; rest = parts.1 }
