@@ -7,9 +7,9 @@ ghost use Rattle.model.specs.Tables.{fresh};
 ghost use Rattle.history.specs.Promise.{Reached};
 ghost use Rattle.cells.specs.Laid.{laid};
 
-use crate::fresh::{at_most, clear_index, queue_all};
+use crate::fresh::{clear_index, queue_all};
 use crate::slotmap::MetaSlotMap;
-use containers::MetaQueue;
+use containers::{MetaQueue, fitting};
 use freelist::{first_key, link_all};
 use refusal::Refusal;
 use rows::{FreeListEntry, Row};
@@ -34,11 +34,12 @@ fn capacity_over<X: Row<Item = u32>, L: Row<Item = FreeListEntry>, D: Row, Q: Ro
     ensures values { (D.Row.cells values.new ≡ D.Row.cells values.old) × ((D.Row.outside values.new ≡ D.Row.outside values.old) × (D.Row.stored values.new ≡ D.Row.stored values.old)) }
     ensures slots { (Q.Row.cells slots.new ≡ Q.Row.cells slots.old) × ((Q.Row.outside slots.new ≡ Q.Row.outside slots.old) × (Q.Row.stored slots.new ≡ Q.Row.stored slots.old)) }
 {
-    let capacity = at_most(asked, 65535);
-    let capacity = at_most(capacity, index.count());
-    let capacity = at_most(capacity, links.count());
-    let capacity = at_most(capacity, values.count());
-    at_most(capacity, slots.count())
+    let count = index
+        .count()
+        .min(links.count())
+        .min(values.count())
+        .min(slots.count());
+    fitting(asked, count)
 }
 
 impl Plan {
