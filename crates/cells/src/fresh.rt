@@ -1,22 +1,11 @@
 // The cells of a fresh table.
-ghost use Rattle.std.specs.Prelude.{◌≡◌, min};
+ghost use Rattle.std.specs.Prelude.{◌≡◌};
 ghost use Rattle.containers.specs.Queues.{queue as state, empty};
 ghost use Rattle.model.specs.Fresh.{written, slots_to};
 ghost use Rattle.model.specs.Layouts.{nil};
 
 use containers::MetaQueue;
 use rows::{NONE, Row};
-
-// The lesser of a number and a count.
-pub(crate) fn at_most(n: u32, count: usize) -> u32
-    ensures { result ≡ min n count }
-{
-    if (n as usize) <= count {
-        n
-    } else {
-        count as u32
-    }
-}
 
 // No key has a slot.
 pub(crate) fn clear_index<X: Row<Item = u32>>(index: &mut X, capacity: u32)

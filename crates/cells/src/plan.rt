@@ -8,9 +8,9 @@ ghost use Rattle.history.specs.Promise.{Reached};
 ghost use Rattle.cells.specs.Laid.{laid};
 ghost use Rattle.rows.specs.Cells.{Kept};
 
-use crate::fresh::{at_most, clear_index, queue_all};
+use crate::fresh::{clear_index, queue_all};
 use crate::slotmap::{MetaSlotMap, Rows};
-use containers::MetaQueue;
+use containers::{MetaQueue, fitting};
 use freelist::{first_key, link_all};
 use refusal::Refusal;
 use rows::{FreeListEntry, Row};
@@ -38,7 +38,7 @@ fn capacity_over<X: Row<Item = u32>, L: Row<Item = FreeListEntry>, D: Row, Q: Ro
         .min(rows.links.count())
         .min(rows.values.count())
         .min(rows.slots.count());
-    at_most(asked.min(65535), shortest)
+    fitting(asked, shortest)
 }
 
 impl Plan {

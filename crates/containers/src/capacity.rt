@@ -1,17 +1,13 @@
 // How many places a container has.
 ghost use Rattle.std.specs.Prelude.{◌≡◌, min};
 
-// The largest capacity of a container.
+// The largest capacity.
 const MOST: u32 = 65_535;
 
-// The least of the asked capacity, 65,535 and the row's count.
-pub(crate) fn fitting(asked: u32, count: usize) -> u32
+// The least of what is asked for, 65,535 and a count of cells.
+pub fn fitting(asked: u32, count: usize) -> u32
     ensures { result ≡ min (min asked 65535) count }
 {
-    let most = asked.min(MOST);
-    if (most as usize) < count {
-        most
-    } else {
-        count as u32
-    }
+    let count = u32::try_from(count).unwrap_or(u32::MAX);
+    asked.min(MOST).min(count)
 }
