@@ -111,31 +111,27 @@ impl<R: Row> MetaQueue<R> {
     }
 
     // The oldest element, which stays.
-    pub fn peek(&mut self) -> Result<Option<R::Item>, Refusal>
-        ensures value { result ≡ oldest_answer (queue R.Row.cells self.old) }
+    pub fn peek(&mut self) -> Option<R::Item>
+        ensures value { Ok result ≡ oldest_answer (queue R.Row.cells self.old) }
         ensures same { (queue R.Row.cells self.new) ≡ (queue R.Row.cells self.old) }
-        ensures means { Means contents Backed (queue R.Row.cells self.old) result (queue R.Row.cells self.new) (λ xs. Ok (slice_get xs 0)) (λ xs. xs) }
+        ensures means { Means contents Backed (queue R.Row.cells self.old) result (queue R.Row.cells self.new) (λ xs. slice_get xs 0) (λ xs. xs) }
         ensures untouched { R.Row.stored self.new.row ≡ R.Row.stored self.old.row }
         ensures beside { R.Row.outside self.new.row ≡ R.Row.outside self.old.row }
     {
-        if self.is_empty() {
-            return Ok(None);
-        }
-        let oldest = self.row.read(self.position.place_of(0) as usize)?;
-        Ok(Some(oldest))
+        self.get(0).ok()
     }
 
     // Takes the oldest element out.
-    pub fn pop(&mut self) -> Result<Option<R::Item>, Refusal>
-        ensures value { result ≡ oldest_answer (queue R.Row.cells self.old) }
-        ensures after { (queue R.Row.cells self.new) ≡ (if is_ok result then popped (queue R.Row.cells self.old) else queue R.Row.cells self.old) }
-        ensures means { Means contents Backed (queue R.Row.cells self.old) result (queue R.Row.cells self.new) (λ xs. Ok (slice_get xs 0)) (drop 1) }
+    pub fn pop(&mut self) -> Option<R::Item>
+        ensures value { Ok result ≡ oldest_answer (queue R.Row.cells self.old) }
+        ensures after { (queue R.Row.cells self.new) ≡ popped (queue R.Row.cells self.old) }
+        ensures means { Means contents Backed (queue R.Row.cells self.old) result (queue R.Row.cells self.new) (λ xs. slice_get xs 0) (drop 1) }
         ensures untouched { R.Row.stored self.new.row ≡ R.Row.stored self.old.row }
         ensures beside { R.Row.outside self.new.row ≡ R.Row.outside self.old.row }
     {
-        let oldest = self.peek()?;
+        let oldest = self.peek();
         self.position = self.position.popped();
-        Ok(oldest)
+        oldest
     }
 
     // Adds `value` behind the newest element; refused where the queue is full.
@@ -166,7 +162,7 @@ impl<R: Row> MetaQueue<R> {
         if self.capacity() == 0 {
             return Err(Refusal::NoCell);
         }
-        let oldest = if self.is_full() { self.pop()? } else { None };
+        let oldest = if self.is_full() { self.pop() } else { None };
         self.push(value)?;
         Ok(oldest)
     }

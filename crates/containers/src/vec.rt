@@ -97,19 +97,17 @@ impl<R: Row> MetaVec<R> {
     }
 
     // Takes the last element out.
-    pub fn pop(&mut self) -> Result<Option<R::Item>, Refusal>
-        ensures value { result ≡ pop_answer (vector R.Row.cells self.old) }
-        ensures after { (vector R.Row.cells self.new) ≡ (if is_ok result then with (vector R.Row.cells self.old) ((vector R.Row.cells self.old).len - 1) (vector R.Row.cells self.old).cells else vector R.Row.cells self.old) }
-        ensures means { Means contents Backed (vector R.Row.cells self.old) result (vector R.Row.cells self.new) (λ xs. Ok (slice_get xs (length xs - 1))) (λ xs. take (length xs - 1) xs) }
+    pub fn pop(&mut self) -> Option<R::Item>
+        ensures value { Ok result ≡ pop_answer (vector R.Row.cells self.old) }
+        ensures after { (vector R.Row.cells self.new) ≡ with (vector R.Row.cells self.old) ((vector R.Row.cells self.old).len - 1) (vector R.Row.cells self.old).cells }
+        ensures means { Means contents Backed (vector R.Row.cells self.old) result (vector R.Row.cells self.new) (λ xs. slice_get xs (length xs - 1)) (λ xs. take (length xs - 1) xs) }
         ensures untouched { R.Row.stored self.new.row ≡ R.Row.stored self.old.row }
         ensures beside { R.Row.outside self.new.row ≡ R.Row.outside self.old.row }
     {
-        let Some(len) = self.len().checked_sub(1) else {
-            return Ok(None);
-        };
-        let last = self.row.read(len as usize)?;
+        let len = self.len().checked_sub(1)?;
+        let last = self.read(len as usize).ok()?;
         self.extent = self.extent.resized(len);
-        Ok(Some(last))
+        Some(last)
     }
 
     // The element at `place`; refused at or past the length.
