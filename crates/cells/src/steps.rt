@@ -174,9 +174,10 @@ impl<X: Row<Item = u32>, L: Row<Item = FreeListEntry>, D: Row, Q: Row<Item = u32
     }
 
     fn waiting_slot(&mut self) -> Result<u32, Refusal> {
-        let Ok(Some(slot)) = self.data_next_free_index.peek() else {
-            return Err(Refusal::AuditFailed);
-        };
+        let slot = self
+            .data_next_free_index
+            .peek()
+            .ok_or(Refusal::AuditFailed)?;
         if slot >= self.data_next_free_index.capacity() {
             return Err(Refusal::AuditFailed);
         }

@@ -1,6 +1,6 @@
 // A queue of numbers, filled from lines and printed.
-ghost use Rattle.std.specs.Prelude.{◌≡◌, ◌++◌, drop, string_bytes, OnOk};
-ghost use Rattle.std.specs.List.{slice_get, flat_map};
+ghost use Rattle.std.specs.Prelude.{◌≡◌, ◌++◌, string_bytes, OnOk};
+ghost use Rattle.std.specs.List.{flat_map};
 ghost use Rattle.std.specs.Option.{option_to_list};
 ghost use Rattle.containers.specs.Bounded.{latest};
 ghost use Rattle.containers.specs.Queues.{queue as state, contents};
@@ -61,14 +61,6 @@ pub(crate) fn note_lines<R: Row<Item = u32>>(
     Ok(())
 }
 
-// Takes the oldest number out of the queue.
-fn take_oldest<R: Row<Item = u32>>(queue: &mut MetaQueue<R>) -> Option<u32>
-    ensures value { result ≡ slice_get (contents (state R.Row.cells queue.old)) 0 }
-    ensures held { contents (state R.Row.cells queue.new) ≡ drop 1 (contents (state R.Row.cells queue.old)) }
-{
-    queue.pop().unwrap()
-}
-
 // Takes the numbers out of the queue and prints them, oldest first.
 pub(crate) fn print_numbers<R: Row<Item = u32>>(
     queue: &mut MetaQueue<R>,
@@ -76,7 +68,7 @@ pub(crate) fn print_numbers<R: Row<Item = u32>>(
 ) -> Result<(), AllocError>
     ensures { OnOk result (string_bytes out.new ≡ string_bytes out.old ++ flat_map number_line (contents (state R.Row.cells queue.old))) }
 {
-    while let Some(n) = take_oldest(queue) {
+    while let Some(n) = queue.pop() {
         print_number(out, n)?;
     }
     Ok(())

@@ -52,12 +52,12 @@ fn queue_of_three_over_packed_numbers(rt: HostRuntime) {
 #[test]
 fn queue_of_one_goes_round(rt: HostRuntime) {
     let mut queue = MetaQueue::with_capacity(InlineRow::filled(0), 1);
-    assert_eq!(rt; queue.peek(), Ok(None));
+    assert_eq!(rt; queue.peek(), None);
     assert_eq!(rt; queue.push_with_overflow(1), Ok(None));
     assert_eq!(rt; queue.push_with_overflow(2), Ok(Some(1)));
-    assert_eq!(rt; queue.peek(), Ok(Some(2)));
-    assert_eq!(rt; queue.pop(), Ok(Some(2)));
-    assert_eq!(rt; queue.pop(), Ok(None));
+    assert_eq!(rt; queue.peek(), Some(2));
+    assert_eq!(rt; queue.pop(), Some(2));
+    assert_eq!(rt; queue.pop(), None);
     assert_eq!(rt; queue.push(3), Ok(()));
     assert!(rt; queue.is_full() && queue.len() == 1);
     queue.clear();
@@ -71,7 +71,7 @@ fn queue_without_a_cell(rt: HostRuntime) {
     assert!(rt; queue.is_empty() && queue.is_full() && queue.capacity() == 0);
     assert_eq!(rt; queue.push(1), Err(Refusal::NoSpace));
     assert_eq!(rt; queue.push_with_overflow(1), Err(Refusal::NoCell));
-    assert_eq!(rt; queue.pop(), Ok(None));
+    assert_eq!(rt; queue.pop(), None);
     assert_eq!(rt; queue.get(usize::MAX), Err(Refusal::PlacePastLength));
 }
 

@@ -8,7 +8,7 @@ fn vector_of_two(rt: HostRuntime) {
     let mut numbers = [8, 9];
     let mut vec = MetaVec::new(SliceRow::new(&mut numbers));
     assert!(rt; vec.is_empty() && !vec.is_full());
-    assert_eq!(rt; vec.pop(), Ok(None));
+    assert_eq!(rt; vec.pop(), None);
     assert_eq!(rt; vec.read(0), Err(Refusal::PlacePastLength));
     assert_eq!(rt; vec.push(1), Ok(()));
     assert_eq!(rt; vec.write(1, 5), Err(Refusal::PlacePastLength));
@@ -17,7 +17,7 @@ fn vector_of_two(rt: HostRuntime) {
     assert!(rt; vec.is_full() && vec.len() == 2 && vec.capacity() == 2);
     assert_eq!(rt; vec.write(0, 10), Ok(()));
     assert_eq!(rt; vec.read(0), Ok(10));
-    assert_eq!(rt; vec.pop(), Ok(Some(2)));
+    assert_eq!(rt; vec.pop(), Some(2));
     vec.clear();
     assert!(rt; vec.is_empty());
     let slice = vec.into_row().into_slice();
@@ -30,5 +30,5 @@ fn vector_without_a_cell(rt: HostRuntime) {
     let mut vec = MetaVec::new(SliceRow::new(&mut none));
     assert!(rt; vec.is_empty() && vec.is_full());
     assert_eq!(rt; vec.push(1), Err(Refusal::NoSpace));
-    assert_eq!(rt; vec.pop(), Ok(None));
+    assert_eq!(rt; vec.pop(), None);
 }
