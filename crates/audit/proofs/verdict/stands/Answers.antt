@@ -1,37 +1,21 @@
-use Rattle.std.proofs.Common.{MatchBool, ◌∙◌, rules}
+use Rattle.std.proofs.Common.{MatchBool, ◌∙◌}
 use Rattle.audit.specs.Parts.{Listed, Loose, Shared}
 use Rattle.audit.specs.Verdict.{layout_of, queue_of}
 use Rattle.audit.proofs.Audits.{stands_tells, stands_sized, stands_listed}
 use Rattle.audit.proofs.Calls.{moved}
 use Rattle.audit.proofs.verdict.stands.Goals as goal
 
-pub returns-then-not-sizes_stand : goal.returns-then-not-sizes_stand
-returns-then-not-sizes_stand g c =
-    let sizes = c.if-not-sizes_stand.ensures in
-    record {
-      value = λ h. sizes.value (stands_sized _ h);
-      index = sizes.index;
-      links = sizes.links;
-      values = sizes.values;
-      slots = sizes.slots;
-    }
+pub returns-then-not-sizes_stand-clause-value : goal.returns-then-not-sizes_stand-clause-value
+returns-then-not-sizes_stand-clause-value g c h = c.if-not-sizes_stand.ensures.value (stands_sized _ h)
 
-pub returns-then-not-free_list_stands : goal.returns-then-not-free_list_stands
-returns-then-not-free_list_stands g c =
+pub returns-then-not-free_list_stands-clause-value : goal.returns-then-not-free_list_stands-clause-value
+returns-then-not-free_list_stands-clause-value g c h =
     let r = c.args.registers in
     let sizes = c.if-not-sizes_stand.ensures in
-    let free = c.if-not-free_list_stands.ensures in
-    record {
-      value = λ h.
-          moved (λ xs ls. Listed xs ls r.capacity r.head r.waiting → ⊥) sizes.index.0 sizes.links.0 free.value (stands_listed _ h);
-      index = search rules;
-      links = search rules;
-      values = sizes.values;
-      slots = sizes.slots;
-    }
+    moved (λ xs ls. Listed xs ls r.capacity r.head r.waiting → ⊥) sizes.index.0 sizes.links.0 c.if-not-free_list_stands.ensures.value (stands_listed _ h)
 
-pub returns : goal.returns
-returns g c =
+pub returns-clause-value : goal.returns-clause-value
+returns-clause-value g c =
     let r = c.args.registers in
     let xs = g.X.Row.cells c.args.index.now in
     let ls = g.L.Row.cells c.args.links.now in
@@ -40,16 +24,8 @@ returns g c =
     let sizes = c.if-not-sizes_stand.ensures in
     let free = c.if-not-free_list_stands.ensures in
     let holding = c.if-not-holding_keys_are_loose.ensures in
-    let slots = c.slots_stand.ensures in
-    record {
-      value =
-          stands_tells (layout_of r xs ls vs qs) c.slots_stand.result sizes.value
-          (moved (λ ys ms. Listed ys ms r.capacity r.head r.waiting) sizes.index.0 sizes.links.0 free.value)
-          (moved (λ ys ms. Loose ys ms r.capacity) (free.index.0 ∙ sizes.index.0) (free.links.0 ∙ sizes.links.0) holding.value)
-          (moved (λ ys rs. MatchBool c.slots_stand.result (Shared ys (queue_of r rs) r.len) (Shared ys (queue_of r rs) r.len → ⊥))
-          (holding.index.0 ∙ free.index.0 ∙ sizes.index.0) sizes.slots.0 slots.value);
-      index = search rules;
-      links = search rules;
-      values = sizes.values;
-      slots = search rules;
-    }
+    stands_tells (layout_of r xs ls vs qs) c.slots_stand.result sizes.value
+    (moved (λ ys ms. Listed ys ms r.capacity r.head r.waiting) sizes.index.0 sizes.links.0 free.value)
+    (moved (λ ys ms. Loose ys ms r.capacity) (free.index.0 ∙ sizes.index.0) (free.links.0 ∙ sizes.links.0) holding.value)
+    (moved (λ ys rs. MatchBool c.slots_stand.result (Shared ys (queue_of r rs) r.len) (Shared ys (queue_of r rs) r.len → ⊥))
+    (holding.index.0 ∙ free.index.0 ∙ sizes.index.0) sizes.slots.0 c.slots_stand.ensures.value)
