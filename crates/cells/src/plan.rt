@@ -9,7 +9,7 @@ ghost use Rattle.cells.specs.Laid.{laid};
 
 use crate::fresh::{clear_index, queue_all};
 use crate::slotmap::MetaSlotMap;
-use containers::{MetaQueue, fitting};
+use containers::fitting;
 use freelist::{first_key, link_all};
 use refusal::Refusal;
 use rows::{FreeListEntry, Row};
@@ -72,42 +72,14 @@ impl Plan {
         }
     }
 
-    // The table, by its cells.
-    fn initialize_data_structures<
-        X: Row<Item = u32>,
-        L: Row<Item = FreeListEntry>,
-        D: Row,
-        Q: Row<Item = u32>,
-    >(self, mut index: X, mut links: L, mut values: D, mut slots: Q) -> MetaSlotMap<X, L, D, Q>
-        ensures cells { laid X.Row.cells L.Row.cells D.Row.cells Q.Row.cells result ≡ fresh_layout (size_over self.capacity (X.Row.cells index) (L.Row.cells links) (D.Row.cells values) (Q.Row.cells slots)) (X.Row.cells index) (L.Row.cells links) (D.Row.cells values) (Q.Row.cells slots) }
-        ensures unwritten { D.Row.stored result.«data» ≡ D.Row.stored values }
-        ensures outside { (X.Row.outside result.idx_to_data ≡ X.Row.outside index) × ((L.Row.outside result.idx_to_data_free_list ≡ L.Row.outside links) × ((D.Row.outside result.«data» ≡ D.Row.outside values) × (Q.Row.outside result.data_next_free_index.row ≡ Q.Row.outside slots))) }
-    {
-        let Plan { capacity: asked } = self;
-        let capacity = capacity_over(asked, &mut index, &mut links, &mut values, &mut slots);
-        clear_index(&mut index, capacity);
-        link_all(&mut links, capacity);
-        let mut queue = MetaQueue::with_capacity(slots, capacity);
-        queue_all(&mut queue);
-        let head = first_key(capacity);
-        MetaSlotMap {
-            idx_to_data: index,
-            idx_to_data_free_list: links,
-            data: values,
-            data_next_free_index: queue,
-            idx_to_data_free_list_head: head,
-            len: 0,
-        }
-    }
-
     // Makes the table over four rows. Its capacity is the least of what is asked for, 65,535 and
     // the counts of the rows; no cell past it is touched, and no value is written.
     pub fn init<X: Row<Item = u32>, L: Row<Item = FreeListEntry>, D: Row, Q: Row<Item = u32>>(
         self,
-        index: X,
-        links: L,
-        values: D,
-        slots: Q,
+        mut index: X,
+        mut links: L,
+        mut values: D,
+        mut slots: Q,
     ) -> MetaSlotMap<X, L, D, Q>
         ensures cells { laid X.Row.cells L.Row.cells D.Row.cells Q.Row.cells result ≡ fresh_layout (size_over self.capacity (X.Row.cells index) (L.Row.cells links) (D.Row.cells values) (Q.Row.cells slots)) (X.Row.cells index) (L.Row.cells links) (D.Row.cells values) (Q.Row.cells slots) }
         ensures means { Means (laid X.Row.cells L.Row.cells D.Row.cells Q.Row.cells result) (fresh (size_over self.capacity (X.Row.cells index) (L.Row.cells links) (D.Row.cells values) (Q.Row.cells slots))) }
@@ -116,6 +88,22 @@ impl Plan {
         ensures unwritten { D.Row.stored result.«data» ≡ D.Row.stored values }
         ensures outside { (X.Row.outside result.idx_to_data ≡ X.Row.outside index) × ((L.Row.outside result.idx_to_data_free_list ≡ L.Row.outside links) × ((D.Row.outside result.«data» ≡ D.Row.outside values) × (Q.Row.outside result.data_next_free_index.row ≡ Q.Row.outside slots))) }
     {
-        self.initialize_data_structures(index, links, values, slots)
+        let capacity = capacity_over(
+            self.capacity,
+            &mut index,
+            &mut links,
+            &mut values,
+            &mut slots,
+        );
+        clear_index(&mut index, capacity);
+        link_all(&mut links, capacity);
+        MetaSlotMap {
+            idx_to_data: index,
+            idx_to_data_free_list: links,
+            data: values,
+            data_next_free_index: queue_all(slots, capacity),
+            idx_to_data_free_list_head: first_key(capacity),
+            len: 0,
+        }
     }
 }

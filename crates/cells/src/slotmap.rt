@@ -46,20 +46,11 @@ impl<X: Row<Item = u32>, L: Row<Item = FreeListEntry>, D: Row, Q: Row<Item = u32
         ensures values { result.values ≡ self.«data» }
         ensures slots { result.slots ≡ self.data_next_free_index.row }
     {
-        let MetaSlotMap {
-            idx_to_data: index,
-            idx_to_data_free_list: links,
-            data: values,
-            data_next_free_index,
-            idx_to_data_free_list_head: _,
-            len: _,
-        } = self;
-        let slots = data_next_free_index.into_row();
         Rows {
-            index,
-            links,
-            values,
-            slots,
+            index: self.idx_to_data,
+            links: self.idx_to_data_free_list,
+            values: self.data,
+            slots: self.data_next_free_index.into_row(),
         }
     }
 }

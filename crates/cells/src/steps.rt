@@ -144,16 +144,11 @@ impl<X: Row<Item = u32>, L: Row<Item = FreeListEntry>, D: Row, Q: Row<Item = u32
     }
 
     fn index_of(&mut self, key: SlotMapKey) -> Result<Option<u32>, Refusal> {
-        let Ok(slot) = self.idx_to_data.read(key as usize) else {
-            return Err(Refusal::AuditFailed);
-        };
-        if slot == NONE {
-            return Ok(None);
+        match self.idx_to_data.read(key as usize) {
+            Ok(NONE) => Ok(None),
+            Ok(slot) if slot < self.data_next_free_index.capacity() => Ok(Some(slot)),
+            _ => Err(Refusal::AuditFailed),
         }
-        if slot >= self.data_next_free_index.capacity() {
-            return Err(Refusal::AuditFailed);
-        }
-        Ok(Some(slot))
     }
 
     fn slot_of(&mut self, key: SlotMapKey) -> Result<Option<u32>, Refusal> {
@@ -164,27 +159,23 @@ impl<X: Row<Item = u32>, L: Row<Item = FreeListEntry>, D: Row, Q: Row<Item = u32
     }
 
     fn value_of(&mut self, slot: u32) -> Result<D::Item, Refusal> {
-        match self.data.read(slot as usize) {
-            Ok(value) => Ok(value),
-            Err(_) => Err(Refusal::AuditFailed),
-        }
+        self.data
+            .read(slot as usize)
+            .map_err(|_| Refusal::AuditFailed)
     }
 
     fn acquire_next_free_index(&self) -> Option<SlotMapKey> {
-        if self.idx_to_data_free_list_head == NONE {
-            return None;
+        match self.idx_to_data_free_list_head {
+            NONE => None,
+            head => Some(head),
         }
-        Some(self.idx_to_data_free_list_head)
     }
 
     fn waiting_slot(&mut self) -> Result<u32, Refusal> {
-        let Ok(Some(slot)) = self.data_next_free_index.peek() else {
-            return Err(Refusal::AuditFailed);
-        };
-        if slot >= self.data_next_free_index.capacity() {
-            return Err(Refusal::AuditFailed);
+        match self.data_next_free_index.peek() {
+            Ok(Some(slot)) if slot < self.data_next_free_index.capacity() => Ok(slot),
+            _ => Err(Refusal::AuditFailed),
         }
-        Ok(slot)
     }
 
     fn check_fill(&mut self, key: SlotMapKey) -> Result<FreeListEntry, Refusal> {
@@ -227,10 +218,9 @@ impl<X: Row<Item = u32>, L: Row<Item = FreeListEntry>, D: Row, Q: Row<Item = u32
     }
 
     fn overwrite(&mut self, slot: u32, value: D::Item) -> Result<(), Refusal> {
-        match self.data.write(slot as usize, value) {
-            Ok(()) => Ok(()),
-            Err(_) => Err(Refusal::AuditFailed),
-        }
+        self.data
+            .write(slot as usize, value)
+            .map_err(|_| Refusal::AuditFailed)
     }
 
     fn vacate(&mut self, key: SlotMapKey, slot: u32) -> Result<(), Refusal> {
@@ -244,9 +234,9 @@ impl<X: Row<Item = u32>, L: Row<Item = FreeListEntry>, D: Row, Q: Row<Item = u32
             capacity,
             self.idx_to_data_free_list_head,
         )?;
-        if self.data_next_free_index.push(slot).is_err() {
-            return Err(Refusal::AuditFailed);
-        }
+        self.data_next_free_index
+            .push(slot)
+            .map_err(|_| Refusal::AuditFailed)?;
         self.release_free_index(key);
         let _ = self.idx_to_data.write(key as usize, NONE);
         self.len -= 1;
