@@ -1,6 +1,6 @@
 // The cells of a fresh table.
-ghost use Rattle.std.specs.Prelude.{◌≡◌};
-ghost use Rattle.containers.specs.Queues.{queue as state, empty};
+ghost use Rattle.std.specs.Prelude.{◌≡◌, min, length};
+ghost use Rattle.containers.specs.Queues.{queue as state};
 ghost use Rattle.model.specs.Fresh.{written, slots_to};
 ghost use Rattle.model.specs.Layouts.{nil};
 
@@ -17,13 +17,15 @@ pub(crate) fn clear_index<X: Row<Item = u32>>(index: &mut X, capacity: u32)
     }
 }
 
-// All slots wait, in order.
-pub(crate) fn queue_all<Q: Row<Item = u32>>(slots: &mut MetaQueue<Q>)
-    requires { state Q.Row.cells slots.old ≡ empty (state Q.Row.cells slots.old).capacity (Q.Row.cells slots.old.row) }
-    ensures after { state Q.Row.cells slots.new ≡ slots_to (state Q.Row.cells slots.old).capacity (state Q.Row.cells slots.old).capacity (Q.Row.cells slots.old.row) }
-    ensures beside { Q.Row.outside slots.new.row ≡ Q.Row.outside slots.old.row }
+// A queue with a place for each of `capacity` slots, as far as there are cells; all its slots wait, in order.
+pub(crate) fn queue_all<Q: Row<Item = u32>>(slots: Q, capacity: u32) -> MetaQueue<Q>
+    ensures capacity { (state Q.Row.cells result).capacity ≡ min (min capacity 65535) (length (Q.Row.cells slots)) }
+    ensures after { state Q.Row.cells result ≡ slots_to (state Q.Row.cells result).capacity (state Q.Row.cells result).capacity (Q.Row.cells slots) }
+    ensures beside { Q.Row.outside result.row ≡ Q.Row.outside slots }
 {
-    for slot in 0..slots.capacity() {
-        let _ = slots.push(slot);
+    let mut queue = MetaQueue::with_capacity(slots, capacity);
+    for slot in 0..queue.capacity() {
+        let _ = queue.push(slot);
     }
+    queue
 }

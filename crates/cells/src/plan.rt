@@ -10,7 +10,7 @@ ghost use Rattle.rows.specs.Cells.{Kept};
 
 use crate::fresh::{clear_index, queue_all};
 use crate::slotmap::{MetaSlotMap, Rows};
-use containers::{MetaQueue, fitting};
+use containers::fitting;
 use freelist::{first_key, link_all};
 use refusal::Refusal;
 use rows::{FreeListEntry, Row};
@@ -68,44 +68,11 @@ impl Plan {
         }
     }
 
-    // The table, by its cells.
-    fn initialize_data_structures<
-        X: Row<Item = u32>,
-        L: Row<Item = FreeListEntry>,
-        D: Row,
-        Q: Row<Item = u32>,
-    >(self, mut rows: Rows<X, L, D, Q>) -> MetaSlotMap<X, L, D, Q>
-        ensures cells { laid X.Row.cells L.Row.cells D.Row.cells Q.Row.cells result ≡ fresh_layout (size_over self.capacity (X.Row.cells rows.index) (L.Row.cells rows.links) (D.Row.cells rows.values) (Q.Row.cells rows.slots)) (X.Row.cells rows.index) (L.Row.cells rows.links) (D.Row.cells rows.values) (Q.Row.cells rows.slots) }
-        ensures unwritten { D.Row.stored result.«data» ≡ D.Row.stored rows.values }
-        ensures outside { (X.Row.outside result.idx_to_data ≡ X.Row.outside rows.index) × ((L.Row.outside result.idx_to_data_free_list ≡ L.Row.outside rows.links) × ((D.Row.outside result.«data» ≡ D.Row.outside rows.values) × (Q.Row.outside result.data_next_free_index.row ≡ Q.Row.outside rows.slots))) }
-    {
-        let capacity = capacity_over(self.capacity, &mut rows);
-        let Rows {
-            mut index,
-            mut links,
-            values,
-            slots,
-        } = rows;
-        clear_index(&mut index, capacity);
-        link_all(&mut links, capacity);
-        let mut queue = MetaQueue::with_capacity(slots, capacity);
-        queue_all(&mut queue);
-        let head = first_key(capacity);
-        MetaSlotMap {
-            idx_to_data: index,
-            idx_to_data_free_list: links,
-            data: values,
-            data_next_free_index: queue,
-            idx_to_data_free_list_head: head,
-            len: 0,
-        }
-    }
-
     // Makes the table over four rows. Its capacity is the least of what is asked for, 65,535 and
     // the counts of the rows; no cell past it is touched, and no value is written.
     pub fn init<X: Row<Item = u32>, L: Row<Item = FreeListEntry>, D: Row, Q: Row<Item = u32>>(
         self,
-        rows: Rows<X, L, D, Q>,
+        mut rows: Rows<X, L, D, Q>,
     ) -> MetaSlotMap<X, L, D, Q>
         ensures cells { laid X.Row.cells L.Row.cells D.Row.cells Q.Row.cells result ≡ fresh_layout (size_over self.capacity (X.Row.cells rows.index) (L.Row.cells rows.links) (D.Row.cells rows.values) (Q.Row.cells rows.slots)) (X.Row.cells rows.index) (L.Row.cells rows.links) (D.Row.cells rows.values) (Q.Row.cells rows.slots) }
         ensures means { Means (laid X.Row.cells L.Row.cells D.Row.cells Q.Row.cells result) (fresh (size_over self.capacity (X.Row.cells rows.index) (L.Row.cells rows.links) (D.Row.cells rows.values) (Q.Row.cells rows.slots))) }
@@ -114,6 +81,16 @@ impl Plan {
         ensures unwritten { D.Row.stored result.«data» ≡ D.Row.stored rows.values }
         ensures outside { (X.Row.outside result.idx_to_data ≡ X.Row.outside rows.index) × ((L.Row.outside result.idx_to_data_free_list ≡ L.Row.outside rows.links) × ((D.Row.outside result.«data» ≡ D.Row.outside rows.values) × (Q.Row.outside result.data_next_free_index.row ≡ Q.Row.outside rows.slots))) }
     {
-        self.initialize_data_structures(rows)
+        let capacity = capacity_over(self.capacity, &mut rows);
+        clear_index(&mut rows.index, capacity);
+        link_all(&mut rows.links, capacity);
+        MetaSlotMap {
+            idx_to_data: rows.index,
+            idx_to_data_free_list: rows.links,
+            data: rows.values,
+            data_next_free_index: queue_all(rows.slots, capacity),
+            idx_to_data_free_list_head: first_key(capacity),
+            len: 0,
+        }
     }
 }

@@ -144,17 +144,11 @@ impl<X: Row<Item = u32>, L: Row<Item = FreeListEntry>, D: Row, Q: Row<Item = u32
     }
 
     fn index_of(&mut self, key: SlotMapKey) -> Result<Option<u32>, Refusal> {
-        let slot = self
-            .idx_to_data
-            .read(key as usize)
-            .or(Err(Refusal::AuditFailed))?;
-        if slot == NONE {
-            return Ok(None);
+        match self.idx_to_data.read(key as usize) {
+            Ok(NONE) => Ok(None),
+            Ok(slot) if slot < self.data_next_free_index.capacity() => Ok(Some(slot)),
+            _ => Err(Refusal::AuditFailed),
         }
-        if slot >= self.data_next_free_index.capacity() {
-            return Err(Refusal::AuditFailed);
-        }
-        Ok(Some(slot))
     }
 
     fn slot_of(&mut self, key: SlotMapKey) -> Result<Option<u32>, Refusal> {
@@ -165,23 +159,23 @@ impl<X: Row<Item = u32>, L: Row<Item = FreeListEntry>, D: Row, Q: Row<Item = u32
     }
 
     fn value_of(&mut self, slot: u32) -> Result<D::Item, Refusal> {
-        self.data.read(slot as usize).or(Err(Refusal::AuditFailed))
+        self.data
+            .read(slot as usize)
+            .map_err(|_| Refusal::AuditFailed)
     }
 
     fn acquire_next_free_index(&self) -> Option<SlotMapKey> {
-        let head = self.idx_to_data_free_list_head;
-        (head != NONE).then_some(head)
+        match self.idx_to_data_free_list_head {
+            NONE => None,
+            head => Some(head),
+        }
     }
 
     fn waiting_slot(&mut self) -> Result<u32, Refusal> {
-        let slot = self
-            .data_next_free_index
-            .peek()
-            .ok_or(Refusal::AuditFailed)?;
-        if slot >= self.data_next_free_index.capacity() {
-            return Err(Refusal::AuditFailed);
+        match self.data_next_free_index.peek() {
+            Some(slot) if slot < self.data_next_free_index.capacity() => Ok(slot),
+            _ => Err(Refusal::AuditFailed),
         }
-        Ok(slot)
     }
 
     fn check_fill(&mut self, key: SlotMapKey) -> Result<FreeListEntry, Refusal> {
@@ -226,7 +220,7 @@ impl<X: Row<Item = u32>, L: Row<Item = FreeListEntry>, D: Row, Q: Row<Item = u32
     fn overwrite(&mut self, slot: u32, value: D::Item) -> Result<(), Refusal> {
         self.data
             .write(slot as usize, value)
-            .or(Err(Refusal::AuditFailed))
+            .map_err(|_| Refusal::AuditFailed)
     }
 
     fn vacate(&mut self, key: SlotMapKey, slot: u32) -> Result<(), Refusal> {
@@ -242,7 +236,7 @@ impl<X: Row<Item = u32>, L: Row<Item = FreeListEntry>, D: Row, Q: Row<Item = u32
         )?;
         self.data_next_free_index
             .push(slot)
-            .or(Err(Refusal::AuditFailed))?;
+            .map_err(|_| Refusal::AuditFailed)?;
         self.release_free_index(key);
         let _ = self.idx_to_data.write(key as usize, NONE);
         self.len -= 1;

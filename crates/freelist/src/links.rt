@@ -20,7 +20,7 @@ pub fn link_of<L: Row<Item = FreeListEntry>>(
     if key >= capacity {
         return Err(Refusal::AuditFailed);
     }
-    links.read(key as usize).or(Err(Refusal::AuditFailed))
+    links.read(key as usize).map_err(|_| Refusal::AuditFailed)
 }
 
 // Sees that `key` can be relinked: it is none, or one of `capacity` keys.

@@ -5,5 +5,6 @@ use Rattle.cells.proofs.fresh.queue_all.Given as goal
 
 abbrev pub invariant-loop-slot : goal.invariant-loop-slot
 invariant-loop-slot g l =
-    (queue g.Q.Row.cells l.slots ≡ slots_to l.initial.slots.position.capacity l.slot (g.Q.Row.cells l.initial.slots.row))
-    × (g.Q.Row.outside l.slots.row ≡ g.Q.Row.outside l.initial.slots.row)
+    let q₀ = l.initial.queue in
+    (queue g.Q.Row.cells l.queue ≡ slots_to q₀.position.capacity l.slot (g.Q.Row.cells q₀.row))
+    × (g.Q.Row.outside l.queue.row ≡ g.Q.Row.outside q₀.row)
