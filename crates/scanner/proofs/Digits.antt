@@ -1,14 +1,15 @@
 -- Numbers by their digits.
-use Rattle.std.proofs.Common.{◌≡◌, ℕ, ◌+◌, ◌-◌, ◌*◌, ◌<◌, ◌≤◌, true, false, ◌&&◌, ◌||◌, eqb, ltb, leb, List, [], ◌∷◌, ◌++◌, length, get_or, take, sym, refl, ap, ◌∙◌, ⊎_elim, arith}
+use Rattle.std.proofs.Common.{◌≡◌, ℕ, ◌+◌, ◌*◌, ◌<◌, ◌≤◌, Bool, true, false, ◌&&◌, ◌||◌, eqb, ltb, leb, List, [], ◌∷◌, ◌++◌, length, get_or, take, Some, None, Option, MatchOption, sym, refl, ap, ◌∙◌, ⊎_elim, arith}
 use Rattle.std.proofs.lemmas.Int.Digits.{digits_value_more}
-use Rattle.std.proofs.lemmas.List.{length-append, length-take-le, take_more}
-use Rattle.std.proofs.lemmas.Bool.{cases_Bool, both_ways, and_parts, and_from, or_cases, or_left, ltb-true, lt-ltb, leb-true, le-leb, eqb-true}
+use Rattle.std.proofs.lemmas.List.{length-append, length-take, length-take-le, get_or-take, take_more}
+use Rattle.std.proofs.lemmas.Grind.{get_or_default_zero}
+use Rattle.std.proofs.lemmas.Bool.{cases_Bool, both_ways, and_parts, and_from, or_cases, or_left, cases_lt, ltb-true, lt-ltb, le-ltb, leb-true, le-leb, eqb-true}
+use Rattle.std.specs.Bool.{then_some}
 use Rattle.std.specs.Str.Parse.{digits_value, digits_value_after}
 use Rattle.std.specs.Char.{is_ascii_digit, digit_value}
 use Rattle.std.specs.Str.{all_ascii_digits}
 use Rattle.text.specs.Numbers.{is_number}
-use Rattle.text.proofs.Scans.{digit_value_is, digit_test}
-use Rattle.scanner.specs.Leading.{Leads}
+use Rattle.scanner.specs.Leading.{Leads, NoneLeads}
 
 -- what a number is, part by part
 pub record Number (w : List ℕ) : Type 0 where
@@ -74,6 +75,18 @@ digits_last : (w : List ℕ) (c : ℕ) → all_ascii_digits (w ++ (c ∷ [])) �
 digits_last [] c e = (and_parts (is_ascii_digit c) true e).0
 digits_last (d ∷ w) c e = digits_last w c (and_parts (is_ascii_digit d) (all_ascii_digits (w ++ (c ∷ []))) e).1
 
+-- a number with one digit more, where there is room
+abbrev with_digit : ℕ → ℕ → Option ℕ
+with_digit n byte = then_some (is_ascii_digit byte && leb (n * 10 + digit_value byte) 4294967295) (n * 10 + digit_value byte)
+
+some_when : {A : Type 0} (b : Bool) (x y : A) → Some y ≡ then_some b x → (b ≡ true) × (y ≡ x)
+some_when true x y e = (refl, cc)
+some_when false x y e = absurd (cc)
+
+none_when : {A : Type 0} (b : Bool) (x : A) → None ≡ then_some b x → b ≡ false
+none_when true x e = absurd (cc)
+none_when false x e = refl
+
 -- the first i bytes of a text are digits: at most ten, and v is their value
 pub record Read (text : List ℕ) (v i : ℕ) : Type 0 where
   pub within : i ≤ length text
@@ -83,43 +96,58 @@ pub record Read (text : List ℕ) (v i : ℕ) : Type 0 where
   pub small : v ≤ 4294967295
 
 module _ (text : List ℕ) (v i : ℕ) (r : Read text v i) where
-  -- what is read so far leads the text, if one byte more is no number
-  pub read_leads : (i < length text → Number (take (i + 1) text) → ⊥) → Leads text v i
-  read_leads never =
+  -- what is read is a number, if it has a digit
+  read_number : 0 < i → is_number (take i text) ≡ true
+  read_number some =
       let size = length-take-le i text r.within in
-      record {
-        within = r.within;
-        valued = r.valued;
-        legal = λ some. number_from (take i text) (record { some = omega arith; few = omega (arith, r.few); digits = r.digits; small = omega (arith, r.valued, r.small) });
-        most = λ more. not_number (take (i + 1) text) (never more);
-      }
+      number_from (take i text) (record { some = omega arith; few = omega (arith, r.few); digits = r.digits; small = omega (arith, r.valued, r.small) })
 
-  -- ten digits are read
-  pub read_ten : i ≡ 10 → Leads text v i
-  read_ten e = read_leads (λ more n. omega (arith, n.few, length-take-le (i + 1) text (omega arith)))
+  -- what is read leads the text, where one byte more is no number
+  pub read_leads : (i < length text → is_number (take (i + 1) text) ≡ false)
+      → MatchOption {T = ℕ × ℕ} (then_some (ltb 0 i) (v, i)) (NoneLeads text) (λ p. Leads text p.0 p.1)
+  read_leads never =
+      ⊎_elim
+      (λ (some : 0 < i).
+      rw (lt-ltb 0 i some) (record { within = r.within; valued = r.valued; legal = read_number some; most = never }))
+      (λ (none : i ≤ 0).
+      let zero : i ≡ 0 = omega arith in
+      rw (le-ltb 0 i none) (λ more. rw zero at (never (omega arith))))
+      (cases_lt 0 i)
 
-  -- the next byte is no digit
-  pub read_other : i < length text → is_ascii_digit (get_or text i 0) ≡ false → Leads text v i
-  read_other more other =
-      read_leads (λ _ n. both_ways _ other (digits_last (take i text) (get_or text i 0) (rw (take_more text i 0 more) at n.digits)))
+  -- ten bytes are read, or all
+  pub stops_all : i ≡ length (take 10 text) → i < length text → is_number (take (i + 1) text) ≡ false
+  stops_all all on =
+      let most = length-take 10 text in
+      not_number (take (i + 1) text) (λ n. omega (arith, n.few, length-take-le (i + 1) text (omega arith)))
 
   -- the value with the next digit
-  valued_more : i < length text → 48 ≤ get_or text i 0 → get_or text i 0 ≤ 57 → v * 10 + (get_or text i 0 - 48) ≡ digits_value 10 (take (i + 1) text)
-  valued_more more low high =
-      ap (λ n. n * 10 + (get_or text i 0 - 48)) r.valued
-      ∙ ap (λ d. digits_value 10 (take i text) * 10 + d) (sym (digit_value_is (get_or text i 0) low high))
-      ∙ sym (digits_value_more 10 text i more)
+  valued_more : i < length text → v * 10 + digit_value (get_or text i 0) ≡ digits_value 10 (take (i + 1) text)
+  valued_more more = ap (λ n. n * 10 + digit_value (get_or text i 0)) r.valued ∙ sym (digits_value_more 10 text i more)
 
-  -- the next digit makes the number too large
-  pub read_large : i < length text → 48 ≤ get_or text i 0 → get_or text i 0 ≤ 57 → 4294967295 < v * 10 + (get_or text i 0 - 48) → Leads text v i
-  read_large more low high large = read_leads (λ _ n. omega (arith, n.small, valued_more more low high))
+  -- one byte more of the ten that are looked at: a digit that is read, or one that makes no longer number
+  module _ (byte : ℕ) (more : i < length (take 10 text)) (at : byte ≡ get_or (take 10 text) i byte) where
+    more_left : (i < 10) × (i < length text)
+    more_left = let most = length-take 10 text in (omega arith, omega arith)
 
-  -- one digit more is read
-  pub read_more : i < length text → 48 ≤ get_or text i 0 → get_or text i 0 ≤ 57 → v * 10 + (get_or text i 0 - 48) ≤ 4294967295 → (i ≡ 10 → ⊥) → Read text (v * 10 + (get_or text i 0 - 48)) (i + 1)
-  read_more more low high small room = record {
-    within = omega arith;
-    few = omega (arith, r.few);
-    digits = rw (take_more text i 0 more) (digits_push (take i text) (get_or text i 0) r.digits (digit_test (get_or text i 0) low high));
-    valued = valued_more more low high;
-    small = small;
-  }
+    byte_at : byte ≡ get_or text i 0
+    byte_at = at ∙ get_or-take 10 text i byte more_left.0 ∙ get_or_default_zero text i byte more_left.1
+
+    pub read_more : (longer : ℕ) → Some longer ≡ with_digit v byte → Read text longer (i + 1)
+    read_more longer e =
+        let made = some_when _ _ longer (rw byte_at at e) in
+        let both = and_parts (is_ascii_digit (get_or text i 0)) _ made.0 in
+        rw made.1 (record {
+          within = omega (arith, more_left);
+          few = omega (arith, more_left);
+          digits = rw (take_more text i 0 more_left.1) (digits_push (take i text) (get_or text i 0) r.digits both.0);
+          valued = valued_more more_left.1;
+          small = leb-true (v * 10 + digit_value (get_or text i 0)) 4294967295 both.1;
+        })
+
+    pub stops_more : None ≡ with_digit v byte → i < length text → is_number (take (i + 1) text) ≡ false
+    stops_more e on =
+        let other = none_when _ _ (rw byte_at at e) in
+        not_number (take (i + 1) text)
+        (λ n.
+        let digit = digits_last (take i text) (get_or text i 0) (rw (take_more text i 0 on) at n.digits) in
+        both_ways _ other (and_from _ _ digit (le-leb _ 4294967295 (omega (arith, n.small, valued_more on)))))

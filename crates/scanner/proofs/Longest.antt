@@ -2,7 +2,9 @@
 use Rattle.std.proofs.Common.{◌≡◌, ℕ, zero, suc, ◌+◌, ◌<◌, ◌≤◌, Bool, true, false, List, ◌++◌, length, take, drop, Some, None, Err, Option, Result, sym, refl, ap, ◌∙◌, subst, ⊎_elim, arith, MatchResult}
 use Rattle.std.proofs.lemmas.List.{take-take, take-append-drop}
 use Rattle.std.proofs.lemmas.Bool.{both_ways, cases_Bool, cases_lt, cond-true, cond-false}
+use Rattle.std.proofs.lemmas.Result.{err_from_is_err_and}
 use Rattle.std.specs.Option.{ok_or}
+use Rattle.std.specs.Result.{IsErrAnd}
 use Rattle.scanner.specs.declared.command.Command.{Command}
 use Rattle.scanner.specs.Commands.{words, command_of}
 use Rattle.scanner.specs.Legal.{Legal, Shares, words_begin, largest, shared, scanned}
@@ -86,6 +88,16 @@ answered : (line : List ℕ) (o : Option Command) → command_of line ≡ o
 answered line None e = (λ legal. none_some (sym e ∙ legal.1), shares line)
 answered line (Some c) e = e
 
-pub scanned_legal : (line : List ℕ) (r : Result Command ℕ) → r ≡ scanned line → MatchResult r (λ c. command_of line ≡ Some c) (λ n. (Legal line → ⊥) × Shares line n)
+scanned_legal : (line : List ℕ) (r : Result Command ℕ) → r ≡ scanned line → MatchResult r (λ c. command_of line ≡ Some c) (λ n. (Legal line → ⊥) × Shares line n)
 scanned_legal line r e =
     subst (λ (o : Result Command ℕ). MatchResult o (λ c. command_of line ≡ Some c) (λ n. (Legal line → ⊥) × Shares line n)) (sym e) (answered line (command_of line) refl)
+
+-- both, for a line whose command is read, and for one that is stopped
+abbrev pub Told : List ℕ → Result Command ℕ → Type 0
+Told line r = record { value : r ≡ scanned line; legal : MatchResult r (λ c. command_of line ≡ Some c) (λ n. (Legal line → ⊥) × Shares line n) }
+
+pub told : (line : List ℕ) (r : Result Command ℕ) → scanned line ≡ r → Told line r
+told line r e = record { value = sym e; legal = scanned_legal line r (sym e) }
+
+pub told_stop : (line : List ℕ) (r : Result Command ℕ) (n : ℕ) → IsErrAnd r (λ e. e ≡ n) → scanned line ≡ Err n → Told line r
+told_stop line r n stop e = let is = err_from_is_err_and r stop in told line r (e ∙ ap Err (sym is.2) ∙ sym is.1)

@@ -1,15 +1,17 @@
 -- A walk over a line, from its letter on and number by number.
-use Rattle.std.proofs.Common.{◌≡◌, ℕ, ◌+◌, ◌<◌, ◌≤◌, true, false, List, [], ◌∷◌, ◌++◌, map, length, get_or, take, drop, Some, None, Err, Option, sym, refl, ap, ◌∙◌, ⊎_elim, arith, take-add}
-use Rattle.std.proofs.lemmas.List.{append_assoc, length-drop, length_push, take_all, take_more, take-append-drop, get_or-drop}
+use Rattle.std.proofs.Common.{◌≡◌, ℕ, ◌+◌, ◌<◌, ◌≤◌, ◌≢◌, true, false, List, [], ◌∷◌, ◌++◌, map, length, get_or, take, drop, Some, None, Ok, Err, Option, sym, refl, ap, ◌∙◌, ⊎_elim, arith, take-add}
+use Rattle.std.proofs.lemmas.List.{append_assoc, length-drop, length_push, nil_from_length, take_all, take_more, take-append-drop, get_or-drop}
 use Rattle.std.proofs.lemmas.Bool.{both_ways, and_parts, and_from, and_right, cases_eq, cases_lt, cond-true}
+use Rattle.std.proofs.lemmas.Option.{slice_get-get_or, slice_get_within, get_or_from_slice_get}
+use Rattle.std.specs.List.{slice_get}
+use Rattle.std.specs.Option.{ok_or}
 use Rattle.std.specs.Str.Parse.{digits_value}
 use Rattle.text.specs.Numbers.{is_number}
 use Rattle.scanner.specs.declared.command.Kind.{Kind}
-use Rattle.scanner.specs.declared.command.Kind.TheVariants.{Make, Insert, InsertAt, Remove, Get, Replace, NextFreeKey, Len, List as Listing}
 use Rattle.scanner.specs.declared.command.Command.{Command}
 use Rattle.scanner.specs.Commands.{kind_of, command, words, all_numbers, with_numbers, of_words, command_of}
-use Rattle.scanner.specs.Legal.{takes, numbers_begin, kind_begins, words_begin, scanned}
-use Rattle.scanner.specs.Leading.{Leads}
+use Rattle.scanner.specs.Legal.{takes, numbers_begin, kind_begins, words_begin, shared, scanned}
+use Rattle.scanner.specs.Leading.{Leads, NoneLeads, NumberAt, NoneAt}
 use Rattle.scanner.proofs.Begins.{none_some, with_numbers_holds, begins_less, legal_begins, numbers_full, numbers_open, numbers_many, numbers_other}
 use Rattle.scanner.proofs.Digits.{number_parts}
 use Rattle.scanner.proofs.Longest.{stopped}
@@ -21,18 +23,6 @@ pub record Walked (line : List ℕ) (end : ℕ) (ws : List (List ℕ)) : Type 0 
   pub parted : words (take end line) ≡ (get_or line 0 0 ∷ []) ∷ ws
   pub all : all_numbers ws ≡ true
   pub stops : end < length line → (get_or line end 0 ≡ 32 → ⊥) → words_begin (words (take (end + 1) line)) ≡ false
-
--- a command takes two numbers at most
-pub few_numbers : (k : Kind) → takes k ≤ 2
-few_numbers Make = omega arith
-few_numbers Insert = omega arith
-few_numbers InsertAt = omega arith
-few_numbers Remove = omega arith
-few_numbers Get = omega arith
-few_numbers Replace = omega arith
-few_numbers NextFreeKey = omega arith
-few_numbers Len = omega arith
-few_numbers Listing = omega arith
 
 -- a letter is no blank
 letter_other : (a : ℕ) (k : Kind) → kind_of a ≡ Some k → a ≡ 32 → ⊥
@@ -108,12 +98,12 @@ module _ (line : List ℕ) (k : Kind) (is : kind_of (get_or line 0 0) ≡ Some k
 
   module _ (end : ℕ) (ws : List (List ℕ)) (w : Walked line end ws) where
     -- a number is lacking
-    pub stops_lacking : length ws < takes k → (end < length line → get_or line end 0 ≡ 32 → ⊥) → scanned line ≡ Err end
+    stops_lacking : length ws < takes k → (end < length line → get_or line end 0 ≡ 32 → ⊥) → scanned line ≡ Err end
     stops_lacking few other =
         stopped_at end ws w.within w.parted (numbers_full (takes k) ws w.all (omega arith)) (λ more. w.stops more (other more)) (λ whole both. omega (arith, both.1))
 
     -- all numbers are there
-    pub writes : length line ≤ end → (ns : List ℕ) → map (digits_value 10) ws ≡ ns → command_of line ≡ command k ns
+    writes : length line ≤ end → (ns : List ℕ) → map (digits_value 10) ws ≡ ns → command_of line ≡ command k ns
     writes whole ns e = letter_writes ws (sym (ap words (take_all end line whole)) ∙ w.parted) ∙ cond-true _ _ _ w.all ∙ ap (command k) e
 
     module _ (more : end < length line) where
@@ -125,7 +115,7 @@ module _ (line : List ℕ) (k : Kind) (is : kind_of (get_or line 0 0) ≡ Some k
           ∙ ap (λ us. us ++ ([] ∷ [])) w.parted
 
       -- the line goes on after its last number
-      pub stops_long : length ws ≡ takes k → scanned line ≡ Err end
+      stops_long : length ws ≡ takes k → scanned line ≡ Err end
       stops_long full =
           stopped_at end ws w.within w.parted (numbers_full (takes k) ws w.all (omega arith))
           (λ _.
@@ -137,16 +127,16 @@ module _ (line : List ℕ) (k : Kind) (is : kind_of (get_or line 0 0) ≡ Some k
           (λ whole both. omega arith)
 
       module _ (blank : get_or line end 0 ≡ 32) where
-        -- no digit follows the blank
-        byte_other : (v : ℕ) → Leads (drop (end + 1) line) v 0 → end + 1 < length line → is_number (get_or line (end + 1) 0 ∷ []) ≡ false
-        byte_other v leads on =
+        -- no number follows the blank
+        byte_other : NoneLeads (drop (end + 1) line) → end + 1 < length line → is_number (get_or line (end + 1) 0 ∷ []) ≡ false
+        byte_other none on =
             let some : 0 < length (drop (end + 1) line) = simp length-drop (omega arith) in
             let place : end + 1 + 0 ≡ end + 1 = omega arith in
             let byte = get_or-drop (end + 1) line 0 0 ∙ ap (λ n. get_or line n 0) place in
-            sym (ap is_number (take_more (drop (end + 1) line) 0 0 some ∙ ap (λ b. b ∷ []) byte)) ∙ leads.most some
+            sym (ap is_number (take_more (drop (end + 1) line) 0 0 some ∙ ap (λ b. b ∷ []) byte)) ∙ none some
 
-        no_digit : (v : ℕ) → Leads (drop (end + 1) line) v 0 → end + 1 < length line → words_begin (words (take (end + 1 + 1) line)) ≡ false
-        no_digit v leads on =
+        no_digit : NoneLeads (drop (end + 1) line) → end + 1 < length line → words_begin (words (take (end + 1 + 1) line)) ≡ false
+        no_digit none on =
             let next = take_more line (end + 1) 0 on in
             ⊎_elim
             (λ (again : get_or line (end + 1) 0 ≡ 32).
@@ -159,16 +149,16 @@ module _ (line : List ℕ) (k : Kind) (is : kind_of (get_or line 0 0) ≡ Some k
             (λ (other : get_or line (end + 1) 0 ≡ 32 → ⊥).
             letter_begins (take (end + 1 + 1) line) (ws ++ ((get_or line (end + 1) 0 ∷ []) ∷ []))
             (ap words next ∙ words_byte (take (end + 1) line) (get_or line (end + 1) 0) ((get_or line 0 0 ∷ []) ∷ ws) [] other (parted_blank blank))
-            ∙ numbers_other (takes k) ws (get_or line (end + 1) 0 ∷ []) [] (byte_other v leads on) (omega arith))
+            ∙ numbers_other (takes k) ws (get_or line (end + 1) 0 ∷ []) [] (byte_other none on) (omega arith))
             (cases_eq (get_or line (end + 1) 0) 32)
 
-        pub stops_blank : (v : ℕ) → length ws < takes k → Leads (drop (end + 1) line) v 0 → scanned line ≡ Err (end + 1)
-        stops_blank v few leads =
-            stopped_at (end + 1) (ws ++ ([] ∷ [])) (omega arith) (parted_blank blank) (numbers_open (takes k) ws w.all few) (no_digit v leads)
+        stops_blank : length ws < takes k → NoneLeads (drop (end + 1) line) → scanned line ≡ Err (end + 1)
+        stops_blank few none =
+            stopped_at (end + 1) (ws ++ ([] ∷ [])) (omega arith) (parted_blank blank) (numbers_open (takes k) ws w.all few) (no_digit none)
             (λ whole both. both_ways _ (all_last ws) both.0)
 
         -- a number follows the blank
-        module _ (v d : ℕ) (leads : Leads (drop (end + 1) line) v d) (some : 0 < d) where
+        module _ (v d : ℕ) (leads : Leads (drop (end + 1) line) v d) where
           parted_number : words (take (end + (1 + d)) line) ≡ (get_or line 0 0 ∷ []) ∷ (ws ++ (take d (drop (end + 1) line) ∷ []))
           parted_number =
               let place : end + (1 + d) ≡ end + 1 + d = omega arith in
@@ -178,7 +168,7 @@ module _ (line : List ℕ) (k : Kind) (is : kind_of (get_or line 0 0) ≡ Some k
               ∙ ap (λ p. words (p ++ word)) (take_more line end 0 more ∙ ap (λ b. take end line ++ (b ∷ [])) blank)
               ∙ ap words (append_assoc (take end line) (32 ∷ []) word)
               ∙ words_blank (take end line) word
-              ∙ ap (λ us. words (take end line) ++ us) (words_digits word (number_parts word (leads.legal some)).digits)
+              ∙ ap (λ us. words (take end line) ++ us) (words_digits word (number_parts word leads.legal).digits)
               ∙ ap (λ us. us ++ (word ∷ [])) w.parted
 
           longer_other : end + (1 + d) < length line → is_number (take d (drop (end + 1) line) ++ (get_or line (end + (1 + d)) 0 ∷ [])) ≡ false
@@ -189,16 +179,75 @@ module _ (line : List ℕ) (k : Kind) (is : kind_of (get_or line 0 0) ≡ Some k
               let byte = get_or-drop (end + 1) line d 0 ∙ ap (λ n. get_or line n 0) place in
               sym (ap is_number (take_more (drop (end + 1) line) d 0 left ∙ ap (λ b. word ++ (b ∷ [])) byte)) ∙ leads.most left
 
-          pub walked_number : Walked line (end + (1 + d)) (ws ++ (take d (drop (end + 1) line) ∷ []))
+          walked_number : Walked line (end + (1 + d)) (ws ++ (take d (drop (end + 1) line) ∷ []))
           walked_number =
               let word = take d (drop (end + 1) line) in
               record {
                 within = omega (arith, leads.within, length-drop (end + 1) line);
                 parted = parted_number;
-                all = all_push ws word w.all (leads.legal some);
+                all = all_push ws word w.all leads.legal;
                 stops = λ on other.
                     let byte = get_or line (end + (1 + d)) 0 in
                     letter_begins (take (end + (1 + d) + 1) line) (ws ++ ((word ++ (byte ∷ [])) ∷ []))
                     (ap words (take_more line (end + (1 + d)) 0 on) ∙ words_byte (take (end + (1 + d)) line) byte ((get_or line 0 0 ∷ []) ∷ ws) word other parted_number)
                     ∙ numbers_other (takes k) ws (word ++ (byte ∷ [])) [] (longer_other on) (omega (arith, length_push word byte));
               }
+
+    -- no number is read from the end of the walk on
+    stops_none : (e : ℕ) → length ws < takes k → NoneAt line end e → scanned line ≡ Err e
+    stops_none e few r =
+        ⊎_elim
+        (λ (other : (slice_get line end ≢ Some 32) × (e ≡ end)).
+        stops_lacking few (λ more blank. other.0 (slice_get-get_or line end 0 more ∙ ap Some blank)) ∙ ap Err (sym other.1))
+        (λ (none : (slice_get line end ≡ Some 32) × NoneLeads (drop (end + 1) line) × (e ≡ end + 1)).
+        stops_blank (slice_get_within line end 32 none.0) (get_or_from_slice_get line end 32 0 none.0) few none.1 ∙ ap Err (sym none.2))
+        r
+
+    -- the walk goes on with the number that is read
+    walked_at : (v to : ℕ) → NumberAt line end v to → (u : List ℕ) × (digits_value 10 u ≡ v) × Walked line to (ws ++ (u ∷ []))
+    walked_at v to r =
+        let walked = walked_number (slice_get_within line end 32 r.blank) (get_or_from_slice_get line end 32 0 r.blank) v r.digits r.leads in
+        (take r.digits (drop (end + 1) line), sym r.leads.valued, rw (← r.up_to) at walked)
+
+-- a command is written up to a place of a line, which may go on
+pub record Written (line : List ℕ) (end : ℕ) (c : Command) : Type 0 where
+  pub goes_on : end < length line → scanned line ≡ Err end
+  pub ends : length line ≤ end → scanned line ≡ Ok c
+
+module _ (line : List ℕ) (k : Kind) (is : kind_of (get_or line 0 0) ≡ Some k) where
+  -- a line with such a letter is not empty
+  letter_some : 0 < length line
+  letter_some = ⊎_elim (λ (some : 0 < length line). some) (λ (none : length line ≤ 0). absurd (none_some (ap (λ l. kind_of (get_or l 0 0)) (sym (nil_from_length line (omega arith))) ∙ is))) (cases_lt 0 (length line))
+
+  letter : Walked line 1 []
+  letter = walked_letter line k letter_some is
+
+  written : (end : ℕ) (ws : List (List ℕ)) → Walked line end ws → length ws ≡ takes k → (c : Command) → command k (map (digits_value 10) ws) ≡ Some c → Written line end c
+  written end ws w full c made = record {
+    goes_on = λ more. stops_long line k is end ws w more full;
+    ends = λ whole. ap (λ o. ok_or o (shared line)) (writes line k is end ws w whole _ refl ∙ made);
+  }
+
+  -- a command that takes no number
+  pub plain_written : takes k ≡ 0 → (c : Command) → command k [] ≡ Some c → Written line 1 c
+  plain_written none c made = written 1 [] letter (sym none) c made
+
+  -- a command that takes a number or two, and the first is lacking
+  pub first_stops : 0 < takes k → (e : ℕ) → NoneAt line 1 e → scanned line ≡ Err e
+  first_stops some e r = stops_none line k is 1 [] letter e some r
+
+  module _ (v at : ℕ) (r : NumberAt line 1 v at) where
+    first : (u : List ℕ) × (digits_value 10 u ≡ v) × Walked line at (u ∷ [])
+    first = walked_at line k is 1 [] letter v at r
+
+    pub one_written : takes k ≡ 1 → (c : Command) → command k (v ∷ []) ≡ Some c → Written line at c
+    one_written one c made = written at (first.0 ∷ []) first.2 (sym one) c (ap (λ n. command k (n ∷ [])) first.1 ∙ made)
+
+    -- the second is lacking
+    pub second_stops : 1 < takes k → (e : ℕ) → NoneAt line at e → scanned line ≡ Err e
+    second_stops two e s = stops_none line k is at (first.0 ∷ []) first.2 e two s
+
+    pub two_written : takes k ≡ 2 → (w to : ℕ) → NumberAt line at w to → (c : Command) → command k (v ∷ (w ∷ [])) ≡ Some c → Written line to c
+    two_written two w to s c made =
+        let second = walked_at line k is at (first.0 ∷ []) first.2 w to s in
+        written to (first.0 ∷ (second.0 ∷ [])) second.2 (sym two) c (ap (λ n. command k (n ∷ (digits_value 10 second.0 ∷ []))) first.1 ∙ ap (λ n. command k (v ∷ (n ∷ []))) second.1 ∙ made)

@@ -1,9 +1,9 @@
 // The commands of a script.
 ghost use Rattle.std.specs.Prelude.{◌≡◌};
-ghost use Rattle.scanner.specs.Commands.{kind_of};
+ghost use Rattle.std.specs.Result.{result_ok};
 
 // What a command does, told by its letter.
-#[derive(Clone, Copy)]
+#[derive(Clone, Copy, PartialEq, Eq, Debug)]
 pub enum Kind {
     Make,
     Insert,
@@ -17,7 +17,7 @@ pub enum Kind {
 }
 
 // A command with its numbers.
-#[derive(Clone, Copy)]
+#[derive(Clone, Copy, PartialEq, Eq, Debug)]
 pub enum Command {
     Make(u32),
     Insert(u32),
@@ -30,20 +30,30 @@ pub enum Command {
     List,
 }
 
+// A letter that stands for no command.
+#[derive(Clone, Copy, PartialEq, Eq, Debug)]
+pub struct UnknownLetter;
+
 // The kind of command that a letter stands for.
-pub fn kind_of(letter: char) -> Option<Kind>
-    ensures { result ≡ kind_of letter }
-{
-    match letter {
-        'm' => Some(Kind::Make),
-        'i' => Some(Kind::Insert),
-        'a' => Some(Kind::InsertAt),
-        'r' => Some(Kind::Remove),
-        'g' => Some(Kind::Get),
-        'p' => Some(Kind::Replace),
-        'n' => Some(Kind::NextFreeKey),
-        'l' => Some(Kind::Len),
-        'k' => Some(Kind::List),
-        _ => None,
+impl TryFrom<char> for Kind {
+    ghost use Rattle.scanner.specs.Commands.{kind_of};
+
+    type Error = UnknownLetter;
+
+    ghost try_from_gives = { λ letter result. result_ok result ≡ kind_of letter };
+
+    fn try_from(letter: char) -> Result<Self, UnknownLetter> {
+        match letter {
+            'm' => Ok(Kind::Make),
+            'i' => Ok(Kind::Insert),
+            'a' => Ok(Kind::InsertAt),
+            'r' => Ok(Kind::Remove),
+            'g' => Ok(Kind::Get),
+            'p' => Ok(Kind::Replace),
+            'n' => Ok(Kind::NextFreeKey),
+            'l' => Ok(Kind::Len),
+            'k' => Ok(Kind::List),
+            _ => Err(UnknownLetter),
+        }
     }
 }

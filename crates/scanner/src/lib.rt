@@ -4,5 +4,5 @@
 mod command;
 mod scanning;
 
-pub use command::{Command, Kind, kind_of};
+pub use command::{Command, Kind, UnknownLetter};
 pub use scanning::scan;

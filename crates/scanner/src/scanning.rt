@@ -1,10 +1,12 @@
 // Reading the command that a line writes.
-ghost use Rattle.std.specs.Prelude.{◌≡◌, ◌<◌, length, take, Some, Err, MatchResult, slice_index};
-ghost use Rattle.scanner.specs.Commands.{kind_of, command, command_of};
-ghost use Rattle.scanner.specs.Legal.{Legal, Shares, takes, scanned};
-ghost use Rattle.scanner.specs.Leading.{Leads};
+ghost use Rattle.std.specs.Prelude.{◌≡◌, ◌+◌, ◌*◌, ◌<◌, ◌≤◌, ◌&&◌, length, MatchOption, MatchResult, nat_le};
+ghost use Rattle.std.specs.Bool.{then_some};
+ghost use Rattle.std.specs.Char.{is_ascii_digit, digit_value};
+ghost use Rattle.scanner.specs.Commands.{command_of};
+ghost use Rattle.scanner.specs.Legal.{Legal, Shares, scanned};
+ghost use Rattle.scanner.specs.Leading.{Leads, NoneLeads, NumberAt, NoneAt};
 
-use crate::command::{Command, Kind, kind_of};
+use crate::command::{Command, Kind};
 
 // The byte before each number.
 const BLANK: u8 = b' ';
@@ -12,75 +14,61 @@ const BLANK: u8 = b' ';
 // The most digits that a number is written with.
 const MOST_DIGITS: usize = 10;
 
-// How many numbers a kind of command takes.
-fn number_count(kind: Kind) -> usize
-    ensures { result ≡ takes kind }
-{
-    match kind {
-        Kind::NextFreeKey | Kind::Len | Kind::List => 0,
-        Kind::Make | Kind::Insert | Kind::Remove | Kind::Get => 1,
-        Kind::InsertAt | Kind::Replace => 2,
-    }
-}
-
-// The command of a kind, with as many of these numbers as it takes.
-fn build(kind: Kind, numbers: [u32; 2]) -> Command
-    ensures { command kind (take (takes kind) numbers) ≡ Some result }
-{
-    match kind {
-        Kind::Make => Command::Make(numbers[0]),
-        Kind::Insert => Command::Insert(numbers[0]),
-        Kind::InsertAt => Command::InsertAt(numbers[0], numbers[1]),
-        Kind::Remove => Command::Remove(numbers[0]),
-        Kind::Get => Command::Get(numbers[0]),
-        Kind::Replace => Command::Replace(numbers[0], numbers[1]),
-        Kind::NextFreeKey => Command::NextFreeKey,
-        Kind::Len => Command::Len,
-        Kind::List => Command::List,
-    }
-}
-
-// The longest number that `text` begins with, and how many digits it has: none where there is no number.
-fn leading_number(text: &[u8]) -> (u32, usize)
-    ensures { Leads text.now result.0 result.1 }
+// The longest number that `text` begins with, and how many digits it has.
+fn leading_number(text: &[u8]) -> Option<(u32, usize)>
+    ensures { MatchOption result (NoneLeads text.now) (λ p. Leads text.now p.0 p.1) }
 {
     let mut number: u32 = 0;
-    for (i, byte) in text.iter().enumerate() {
-        if i == MOST_DIGITS || !byte.is_ascii_digit() {
-            return (number, i);
-        }
-        let longer = number as u64 * 10 + (*byte - b'0') as u64;
-        if longer > u32::MAX as u64 {
-            return (number, i);
-        }
-        number = longer as u32;
+    let mut digits = 0;
+    for byte in text.iter().take(MOST_DIGITS) {
+        let Some(longer) = and_digit(number, *byte) else {
+            break;
+        };
+        number = longer;
+        digits += 1;
     }
-    (number, text.len())
+    (digits > 0).then_some((number, digits))
 }
 
-// The numbers that follow the letter of `line`, a command of this kind; or else how much of the line begins a legal one.
-fn numbers(line: &[u8], kind: Kind) -> Result<[u32; 2], usize>
-    requires some { 0 < length line.now }
-    requires letter { kind_of (slice_index line.now 0) ≡ Some kind }
-    ensures { MatchResult result (λ ns. command_of line.now ≡ command kind (take (takes kind) ns)) (λ n. scanned line.now ≡ Err n) }
+// The number with one digit more, where `byte` is a digit and there is room.
+fn and_digit(number: u32, byte: u8) -> Option<u32>
+    ensures { result ≡ then_some (is_ascii_digit byte && nat_le (number * 10 + digit_value byte) 4294967295) (number * 10 + digit_value byte) }
 {
-    let mut numbers = [0; 2];
-    let mut end = 1;
-    for i in 0..number_count(kind) {
-        if end == line.len() || line[end] != BLANK {
-            return Err(end);
-        }
-        let (number, digits) = leading_number(&line[end + 1..]);
-        if digits == 0 {
-            return Err(end + 1);
-        }
-        numbers[i] = number;
-        end += 1 + digits;
+    number
+        .checked_mul(10)?
+        .checked_add(char::from(byte).to_digit(10)?)
+}
+
+// The rest of a line, from `end` on.
+#[derive(Drop)]
+struct Rest<'a> {
+    line: &'a [u8],
+    end: usize,
+}
+
+impl Rest<'_> {
+    // The number that comes next, after a blank; or else how much of the line begins one with a number there.
+    fn number(&mut self) -> Result<u32, usize>
+        ensures line { self.new.line.now ≡ self.old.line.now }
+        ensures read { MatchResult result (λ v. NumberAt self.old.line.now self.old.end v self.new.end) (λ n. NoneAt self.old.line.now self.old.end n) }
+    {
+        let Some(&BLANK) = self.line.get(self.end) else {
+            return Err(self.end);
+        };
+        let (number, digits) = leading_number(&self.line[self.end + 1..]).ok_or(self.end + 1)?;
+        self.end += 1 + digits;
+        Ok(number)
     }
-    if end < line.len() {
-        return Err(end);
+
+    // Nothing, where the line ends here; or else how much of it is read.
+    fn finish(&self) -> Result<(), usize>
+        ensures { MatchResult result (λ _. length self.now.line.now ≤ self.now.end) (λ n. (n ≡ self.now.end) × (n < length self.now.line.now)) }
+    {
+        if self.end < self.line.len() {
+            return Err(self.end);
+        }
+        Ok(())
     }
-    Ok(numbers)
 }
 
 // The command that a line writes; or else how much of the line begins a legal line.
@@ -88,11 +76,20 @@ pub fn scan(line: &[u8]) -> Result<Command, usize>
     ensures value { result ≡ scanned line.now }
     ensures legal { MatchResult result (λ c. command_of line.now ≡ Some c) (λ n. (Legal line.now → ⊥) × Shares line.now n) }
 {
-    if line.len() == 0 {
-        return Err(0);
-    }
-    match kind_of(line[0] as char) {
-        Some(kind) => Ok(build(kind, numbers(line, kind)?)),
-        None => Err(0),
-    }
+    let letter = line.first().ok_or(0usize)?;
+    let kind = Kind::try_from(char::from(*letter)).map_err(|_| 0usize)?;
+    let mut rest = Rest { line, end: 1 };
+    let command = match kind {
+        Kind::Make => Command::Make(rest.number()?),
+        Kind::Insert => Command::Insert(rest.number()?),
+        Kind::InsertAt => Command::InsertAt(rest.number()?, rest.number()?),
+        Kind::Remove => Command::Remove(rest.number()?),
+        Kind::Get => Command::Get(rest.number()?),
+        Kind::Replace => Command::Replace(rest.number()?, rest.number()?),
+        Kind::NextFreeKey => Command::NextFreeKey,
+        Kind::Len => Command::Len,
+        Kind::List => Command::List,
+    };
+    rest.finish()?;
+    Ok(command)
 }

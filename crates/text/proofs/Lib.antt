@@ -1,4 +1,3 @@
 pub mod Splits
-pub mod Scans
 pub mod Numerals
 pub mod Ends

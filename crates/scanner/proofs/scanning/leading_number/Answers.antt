@@ -1,25 +1,37 @@
-use Rattle.std.proofs.Common.{sym}
-use Rattle.scanner.proofs.Digits.{read_ten, read_other, read_large, read_more}
+use Rattle.std.proofs.Common.{◌≡◌, ◌+◌, ◌<◌, ℕ, false, length, take, sym, ap, subst, ◌∙◌}
+use Rattle.std.proofs.lemmas.Iterator.{YieldsList-from_slice, YieldsList-from_take}
+use Rattle.std.proofs.lemmas.Iterator.Consumers.{YieldsList-turn, YieldsList-end}
+use Rattle.std.proofs.lemmas.List.{length_push}
+use Rattle.std.specs.Option.{MatchOption}
+use Rattle.text.specs.Numbers.{is_number}
+use Rattle.scanner.specs.Leading.{Leads, NoneLeads}
+use Rattle.scanner.proofs.Digits.{read_leads, read_more, stops_more, stops_all}
 use Rattle.scanner.proofs.scanning.leading_number.Goals as goal
-use Rattle.scanner.proofs.scanning.leading_number.Goals.{then-i-eq-MOST_DIGITS-via-then-i-eq-MOST_DIGITS, then-i-eq-MOST_DIGITS-via-else-i-eq-MOST_DIGITS+then-not-is_ascii_digit}
+use Rattle.scanner.proofs.scanning.leading_number.Goals.{in-None, in-Some+in_default}
 
--- ten digits, or a byte that is none
-pub returns-then-i-eq-MOST_DIGITS : goal.returns-then-i-eq-MOST_DIGITS
-returns-then-i-eq-MOST_DIGITS c =
+pub loop-byte-preserved : goal.loop-byte-preserved
+loop-byte-preserved c =
     let text = c.args.text.now in
-    elim c.then-i-eq-MOST_DIGITS.branch [
-      | then-i-eq-MOST_DIGITS-via-then-i-eq-MOST_DIGITS w ↦ read_ten text _ _ c.loop-i.invariant w.if-i-eq-MOST_DIGITS.true
-      | then-i-eq-MOST_DIGITS-via-else-i-eq-MOST_DIGITS+then-not-is_ascii_digit w ↦
-          read_other text _ _ c.loop-i.invariant c.loop-i-test.true (sym w.if-not-is_ascii_digit.ensures.value)
-    ]
+    let so_far = c.loop-byte.invariant in
+    let turn = YieldsList-turn (YieldsList-from_take 10 (YieldsList-from_slice text cc) cc) c.loop-byte.yielded _ c.loop-byte.yielded_by _ _ c.in-Some.byte c.in-Some.is c.next.ensures.steps in
+    let here = rw (← so_far.count) at turn in
+    record {
+      count = ap (λ n. n + 1) so_far.count ∙ sym (length_push c.loop-byte.yielded c.in-Some.byte);
+      read = read_more text _ _ so_far.read c.in-Some.byte.now here.0 here.1 c.in-Some-and_digit.longer c.in-Some-and_digit.ensures;
+    }
 
--- the next digit makes the number too large
-pub returns-then-longer : goal.returns-then-longer
-returns-then-longer c =
-    let digit = c.if-not-is_ascii_digit.ensures.cases in
-    read_large c.args.text.now _ _ c.loop-i.invariant c.loop-i-test.true digit.0 digit.1 c.if-longer.true
-
-pub loop-i-preserved : goal.loop-i-preserved
-loop-i-preserved c =
-    let digit = c.if-not-is_ascii_digit.ensures.cases in
-    read_more c.args.text.now _ _ c.loop-i.invariant c.loop-i-test.true digit.0 digit.1 c.if-longer.false c.if-i-eq-MOST_DIGITS.false
+pub returns : goal.returns
+returns c =
+    let text = c.args.text.now in
+    let so_far = c.loop-byte.invariant in
+    let never : c.loop-byte.digits < length text → is_number (take (c.loop-byte.digits + 1) text) ≡ false
+    = elim c.match-next.branch [
+      | in-None w ↦
+          let end = YieldsList-end (YieldsList-from_take 10 (YieldsList-from_slice text cc) cc) c.loop-byte.yielded _ c.loop-byte.yielded_by _ _ w.in-None.is c.next.ensures.steps in
+          stops_all text _ _ so_far.read (so_far.count ∙ end.1)
+      | in-Some+in_default w ↦
+          let turn = YieldsList-turn (YieldsList-from_take 10 (YieldsList-from_slice text cc) cc) c.loop-byte.yielded _ c.loop-byte.yielded_by _ _ w.in-Some.byte w.in-Some.is c.next.ensures.steps in
+          let here = rw (← so_far.count) at turn in
+          stops_more text _ _ so_far.read w.in-Some.byte.now here.0 here.1 w.in_default.ensures
+    ] in
+    subst (λ o. MatchOption {T = ℕ × ℕ} o (NoneLeads text) (λ p. Leads text p.0 p.1)) (sym c.then_some.ensures) (read_leads text _ _ so_far.read never)
