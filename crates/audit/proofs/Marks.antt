@@ -22,35 +22,6 @@ pub given_small : (s : ℕ) → given s ≤ 1
 given_small s = ⊎_elim (λ e. omega (arith, given_no s e)) (λ e. omega (arith, given_yes s e)) (cases_eq s nil)
 
 module _ {before : List Bool} {C : ℕ} {f : ℕ → ℕ} where
-  -- the next number, s, is nil: it is passed over
-  pub marked_skip : {now : List Bool} {m n : ℕ} (s : ℕ) → C ≤ 65535 → Marked before now C f m n → s ≡ f m → s ≡ nil → Marked before now C f (m + 1) n
-  marked_skip {now} {m} {n} s small h is e =
-      let none : f m ≡ nil = sym is ∙ e in
-      record {
-        slots = below_more (λ i. f i ≢ nil → f i < C) m h.slots (λ ne. absurd (ne none));
-        number = omega (arith, h.number, sum_step (λ i. given (f i)) m, given_no (f m) none);
-        marks = λ t b. omega (arith, h.marks t b, sum_step (λ i. same t (f i)) m, same_no t (f m) (omega (arith, none)));
-      }
-
-  -- it is a slot that had no mark, and gets one
-  pub marked_more : {now : List Bool} {m n : ℕ} (next : List Bool) (s : ℕ) → Marked before now C f m n → s ≡ f m → C ≤ length now → s ≢ nil
-      → Unmarked now C s → next ≡ set now s true → Marked before next C f (m + 1) (n + 1)
-  marked_more {now} {m} {n} next s h is fits ne free after =
-      record {
-        slots = below_more (λ i. f i ≢ nil → f i < C) m h.slots (λ _. omega (arith, is, free.0));
-        number = omega (arith, h.number, sum_step (λ i. given (f i)) m, given_yes (f m) (λ e. ne (is ∙ e)));
-        marks = λ t b.
-            ⊎_elim
-            (λ (e : t ≡ s).
-            let new : get_or next t false ≡ true = ap (λ ms. get_or ms t false) after ∙ ap (λ u. get_or (set now s true) u false) e ∙ get_or-set_same now s true false (omega (arith, free.0)) in
-            let old : get_or now t false ≡ false = ap (λ u. get_or now u false) e ∙ free.1 in
-            omega (arith, ap bit new, ap bit old, h.marks t b, sum_step (λ i. same t (f i)) m, same_yes t (f m) (e ∙ is)))
-            (λ (e : t ≡ s → ⊥).
-            let kept : get_or next t false ≡ get_or now t false = ap (λ ms. get_or ms t false) after ∙ get_or-set_other now s t true false e in
-            omega (arith, ap bit kept, h.marks t b, sum_step (λ i. same t (f i)) m, same_no t (f m) (λ q. e (q ∙ sym is))))
-            (cases_eq t s);
-      }
-
   -- it is no slot, or a slot that has a mark: one too many
   pub marked_stuck : {now : List Bool} {i m n k : ℕ} (s : ℕ) → Marked before now C f i n → s ≡ f i → i < m → s ≢ nil
       → (Unmarked now C s → ⊥) → Apart before C f m k → ⊥

@@ -88,9 +88,6 @@ module _ (xs : List ℕ) (ls : List FreeListEntry) (C : ℕ) where
       let next : o ≡ next_key xs ls C p h = e ∙ ap (λ zs. next_key zs ms C p h) ey ∙ ap (λ zs. next_key xs zs C p h) em in
       ap (λ q. onward q (λ k. walk xs ls C (n - (i + 1)) h k)) next ∙ ap (λ m. walk xs ls C m p h) one
 
-  pub walk_starts : (n h : ℕ) → walk xs ls C (n - 0) nil h ≡ walk xs ls C n nil h
-  walk_starts n h = let all : n - 0 ≡ n = omega arith in ap (λ m. walk xs ls C m nil h) all
-
   pub walk_ends : (n i p h : ℕ) → n ≤ i → eqb h nil ≡ walk xs ls C (n - i) p h
   walk_ends n i p h l = let none : 0 ≡ n - i = omega arith in ap (λ m. walk xs ls C m p h) none
 

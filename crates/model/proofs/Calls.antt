@@ -190,9 +190,6 @@ change_follows l l' r x left answer after both er el t h =
     let done = both t h in
     (er ∙ done.0, subst (λ n. Means n (after t)) (sym (el ∙ ap left er)) done.1)
 
-pub get_follows : {V : Type 0} (l l' : Layout V) (k : ℕ) (r : Result (Option V) Refusal) → r ≡ get_cells l k → l' ≡ l → Follows l r l' (λ t. get_answer t k) (λ t. t)
-get_follows l l' k r er el = read_follows l l' r (get_cells l k) (λ t. get_answer t k) (λ t h. get_answers l t h k) er el
-
 pub insert_follows : {V : Type 0} (l l' : Layout V) (v : V) (r : Result (Option ℕ) Refusal) → r ≡ insert_cells l → l' ≡ when_given r (filled l l.head v) l
     → Follows l r l' (λ t. Ok (insert_answer t)) (λ t. insert_after t v)
 insert_follows l l' v r er el =

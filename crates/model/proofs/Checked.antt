@@ -132,7 +132,3 @@ slot_ok l k s p =
     (λ (yes-below : ltb k (capacity l) ≡ true). index_ok l k s (sym (cond-true _ _ _ yes-below) ∙ p))
     (λ (no-below : ltb k (capacity l) ≡ false). let e = sym (cond-false _ _ _ no-below) ∙ p in let z : ◌≡◌ {A = ℕ} 0 1 = cc in absurd (omega arith))
     (cases_Bool (ltb k (capacity l)))
-
--- and stays so while nothing changes
-pub slot_kept : {V : Type 0} (l l₁ l₂ : Layout V) (k s : ℕ) (o : Option ℕ) → Ok o ≡ slot_of l k → o ≡ Some s → l₁ ≡ l → l₂ ≡ l₁ → s ≡ slot_at l₂.index k
-slot_kept l l₁ l₂ k s o p q p₁ p₂ = (slot_ok l k s (sym p ∙ ap Ok q)).0 ∙ ap (λ n. slot_at n.index k) (sym (p₂ ∙ p₁))

@@ -213,10 +213,6 @@ module _ (change : FreeListEntry → FreeListEntry) (ls : List FreeListEntry) (p
       let x = change (link_at ls p) in
       ap (λ ms. link_at ms p) (cond-false (eqb p nil) ls (set ls p x) (ne_eqb p nil ne)) ∙ get_or-set_same ls p x unlinked l
 
-  -- the change made to the link that was read
-  pub relinked_read : (e : FreeListEntry) → p ≢ nil → e ≡ link_at ls p → set ls p (change e) ≡ relinked change ls p
-  relinked_read e ne is = ap (λ q. set ls p (change q)) is ∙ sym (cond-false _ _ _ (ne_eqb p nil ne))
-
 pub cut_out_length : (ls : List FreeListEntry) (k : ℕ) (e : FreeListEntry) → length (cut_out ls k e) ≡ length ls
 cut_out_length ls k e =
     length-set (with_previous (with_next ls e.previous e.next) e.next e.previous) k unlinked

@@ -139,36 +139,6 @@ fresh_means {V} C xs ls vs qs small fx fl fv fq =
       valued = λ k b. sym (cell_none ys vs k (empty k b));
     }
 
--- one place more
-pub written_step : {X : Type 0} (f : ℕ → X) (n : ℕ) (xs ys zs : List X) (y : X) → ys ≡ written f n xs → y ≡ f n → zs ≡ set ys n y
-    → zs ≡ written f (n + 1) xs
-written_step f n xs ys zs y a b c =
-    let e : n + 1 ≡ suc n = omega arith in
-    c ∙ ap (λ q. set q n y) a ∙ ap (λ q. set (written f n xs) n q) b ∙ ap (λ q. written f q xs) (sym e)
-
--- the slots pushed in order
-pub slots_none : (C : ℕ) (cells : List ℕ) → empty C cells ≡ slots_to C 0 cells
-slots_none C cells =
-    let zeroed : 0 ≡ 0 % C = ⊎_elim (λ (none : C ≡ 0). sym (ap (λ c. 0 % c) none ∙ mod-zero 0)) (λ (some : C ≡ 0 → ⊥). sym (mod-eq_of_lt (omega arith))) (cases_eq C 0) in
-    ap (λ s. record { capacity = C; start = s; len = 0; cells = cells }) zeroed
-
-pub slots_more : (C i : ℕ) (cells : List ℕ) (q q' : QueueState ℕ) (r : Result (Unit {0}) Refusal) → i < C → C ≤ length cells → q ≡ slots_to C i cells
-    → r ≡ push_answer q → q' ≡ cond (is_ok r) (pushed q i) q → q' ≡ slots_to C (i + 1) cells
-slots_more C i cells q q' r h fits eq er e =
-    let now = slots_to C i cells in
-    let low : i % C ≡ i = mod-eq_of_lt h in
-    let long : length now.cells ≡ length cells = written_length (λ k. k) i cells in
-    let ok : r ≡ Ok tt
-    = er ∙ ap push_answer eq ∙ cond-true _ _ _ (lt-ltb i C h) ∙ write_within now.cells (i % C) (omega arith) in
-    let next : (i % C + 1) % C ≡ (i + 1) % C = mod-add-mod i C 1 in
-    let one : suc i ≡ i + 1 = omega arith in
-    let stored : set now.cells (i % C) i ≡ written (λ k. k) (i + 1) cells = ap (λ p. set now.cells p i) low ∙ ap (λ n. written (λ k. k) n cells) one in
-    e
-    ∙ ap (λ s. cond (is_ok s) (pushed q i) q) ok
-    ∙ ap (λ n. pushed n i) eq
-    ∙ ap (λ s. record { capacity = C; start = s; len = i + 1; cells = set now.cells (i % C) i }) next
-    ∙ ap (λ xs. record { capacity = C; start = (i + 1) % C; len = i + 1; cells = xs }) stored
-
 pub slots_all : (C : ℕ) (cells : List ℕ) → slots_to C C cells ≡ record { capacity = C; start = 0; len = C; cells = written (λ k. k) C cells }
 slots_all C cells = ap (λ s. record { capacity = C; start = s; len = C; cells = written (λ k. k) C cells }) (mod_self C)
 

@@ -10,9 +10,6 @@ use Rattle.refusal.specs.declared.Refusal.{Refusal}
 use Rattle.refusal.specs.declared.Refusal.TheVariants.{NoPlace}
 use Rattle.rows.specs.Cells.{read_at, write_at, window, around}
 
--- within and past the end: what closes most needs about one cell
-pub ruleset cells_laws = (slice_get_read, slice_get_past, set_past)
-
 -- the answers of reads and writes, within the cells and past them
 pub read_within : {T : Type 0} (xs : List T) (i : ℕ) (d : T) → i < length xs → read_at xs i ≡ Ok (get_or xs i d)
 read_within xs i d h = rw (slice_get-get_or xs i d h)
@@ -45,21 +42,6 @@ pub read_refused_past : {T : Type 0} (xs : List T) (i : ℕ) (e : Refusal) → E
 read_refused_past xs i e p =
     ⊎_elim (λ (lt : i < length xs). absurd (read_refused xs i e p lt)) (λ le. le) (cases_lt i (length xs))
 
--- a refused write had no such place, and so changes nothing
-pub write_refused : {T : Type 0} (xs : List T) (i : ℕ) (e : Refusal) → Err e ≡ write_at xs i → length xs ≤ i
-write_refused xs i e p =
-    ⊎_elim
-    (λ (lt : i < length xs). let ok = p ∙ write_within xs i lt in let z : ◌≡◌ {A = ℕ} 0 1 = cc in absurd (omega arith))
-    (λ le. le)
-    (cases_lt i (length xs))
-
-pub write_when_ok : {T : Type 0} (xs : List T) (i : ℕ) (x : T) (r : Result (Unit {0}) Refusal) → r ≡ write_at xs i → set xs i x ≡ cond (is_ok r) (set xs i x) xs
-write_when_ok xs i x r e =
-    ⊎_elim
-    (λ (lt : i < length xs). sym (ap (λ s. cond (is_ok s) (set xs i x) xs) (e ∙ write_within xs i lt)))
-    (λ (le : length xs ≤ i). set_past xs i x le ∙ sym (ap (λ s. cond (is_ok s) (set xs i x) xs) (e ∙ write_past xs i le)))
-    (cases_lt i (length xs))
-
 pub length_window : {T : Type 0} (from most : ℕ) (xs : List T) → length (window from most xs) ≡ min most (length xs - from)
 length_window from most xs = length-take most (drop from xs) ∙ ap (min most) (length-drop from xs)
 
@@ -68,9 +50,6 @@ nth_take zero i xs h = absurd (omega arith)
 nth_take (suc n) i [] h = refl
 nth_take (suc n) zero (x ∷ xs) h = refl
 nth_take (suc n) (suc i) (x ∷ xs) h = nth_take n i xs (omega arith)
-
-pub nth_window : {T : Type 0} (from most i : ℕ) (xs : List T) → i < most → slice_get (window from most xs) i ≡ slice_get xs (from + i)
-nth_window from most i xs h = nth_take most i (drop from xs) h ∙ nth_drop from xs i
 
 pub get_d_window : {T : Type 0} (from most i : ℕ) (xs : List T) (d : T) → i < most → get_or (window from most xs) i d ≡ get_or xs (from + i) d
 get_d_window from most i xs d h = get_or-take most (drop from xs) i d h ∙ get_or-drop from xs i d
@@ -81,18 +60,3 @@ set_window from most i xs v h = ap (take most) (drop-set-add from xs i v) ∙ ta
 -- a place that the window shows lies in the row below
 pub window_within : {T : Type 0} (from most i : ℕ) (xs : List T) → i < length (window from most xs) → (i < most) × (from + i < length xs)
 window_within from most i xs h = let e = length_window from most xs in (omega arith, omega arith)
-
-pub window_read : {T : Type 0} (from most i : ℕ) (xs : List T) → i < length (window from most xs) → read_at xs (from + i) ≡ read_at (window from most xs) i
-window_read from most i xs h = rw (nth_window from most i xs (window_within from most i xs h).0)
-
-pub window_write : {T : Type 0} (from most i : ℕ) (xs : List T) → i < length (window from most xs) → write_at xs (from + i) ≡ write_at (window from most xs) i
-window_write from most i xs h = rw (lt-ltb _ _ h, lt-ltb _ _ (window_within from most i xs h).1)
-
-pub around_same : {O T : Type 0} (o p : O) (from most : ℕ) (xs ys : List T) → p ≡ o → ys ≡ xs → around p from most ys ≡ around o from most xs
-around_same o p from most xs ys eo ex = cc
-
-pub around_set : {O T : Type 0} (o p : O) (from most i : ℕ) (xs ys : List T) (v : T) → p ≡ o → i < most → ys ≡ set xs (from + i) v → around p from most ys ≡ around o from most xs
-around_set o p from most i xs ys v eo h ex =
-    let before : take from (set xs (from + i) v) ≡ take from xs = take-set-le from xs (from + i) v (omega arith) in
-    let behind : drop (from + most) (set xs (from + i) v) ≡ drop (from + most) xs = drop-set-lt (from + most) xs (from + i) v (omega arith) in
-    cc
