@@ -1,10 +1,9 @@
 -- The marks: a slot has one for each number that was met, and at most one.
-use Rattle.std.proofs.Common.{◌≡◌, ℕ, ◌+◌, ◌<◌, ◌≤◌, Bool, true, false, eqb, ◌≢◌, List, length, get_or, set, sym, ap, ◌∙◌, ⊎_elim, arith, below_more}
-use Rattle.std.proofs.lemmas.List.{get_or-set_same, get_or-set_other}
+use Rattle.std.proofs.Common.{◌≡◌, ℕ, ◌+◌, ◌<◌, ◌≤◌, Bool, true, false, eqb, ◌≢◌, List, get_or, ap, ◌∙◌, ⊎_elim, arith}
 use Rattle.std.proofs.lemmas.Bool.{cases_eq, cases_Bool, eq-eqb, ne_eqb, cond-true, cond-false}
 use Rattle.model.specs.Counts.{same}
 use Rattle.model.specs.Layouts.{nil}
-use Rattle.model.proofs.Sums.{same_yes, same_no}
+use Rattle.model.proofs.Sums.{same_yes}
 use Rattle.audit.specs.Parts.{Unmarked, bit, given, Apart, Marked}
 use Rattle.audit.proofs.Sums.{sum_step, sum_up}
 

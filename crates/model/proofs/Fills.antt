@@ -1,16 +1,12 @@
 -- The steps of a fill, a replace and a remove, one after another.
-use Rattle.std.proofs.Common.{◌≡◌, ℕ, ◌+◌, ◌<◌, true, false, cond, eqb, List, length, set, is_ok, Some, None, Ok, Option, Result, sym, refl, ap, ◌∙◌, ⊎_elim, arith}
-use Rattle.std.proofs.lemmas.Bool.{cases_Bool, cond-true, cond-false, lt-ltb}
-use Rattle.std.specs.List.{slice_get}
+use Rattle.std.proofs.Common.{◌≡◌, ℕ, true, is_ok, Some, None, Ok, Option, sym, refl, ap, ◌∙◌, arith}
 use Rattle.std.specs.Option.{ok_or}
 use Rattle.std.specs.Result.{result_and, result_map_both}
-use Rattle.refusal.specs.declared.Refusal.{Refusal}
 use Rattle.refusal.specs.declared.Refusal.TheVariants.{AuditFailed, NoPlace}
 use Rattle.rows.specs.declared.cell.FreeListEntry.{FreeListEntry}
-use Rattle.containers.specs.Queues.{QueueState, place_of, popped, oldest_answer}
-use Rattle.model.specs.Layouts.{Layout, capacity, oldest_slot, claimed, given, filled, rewritten, overwritten, emptied_at, emptied}
-use Rattle.model.specs.Checks.{then, passes, bounded, room, fillable, waiting, storable, store_answer, fill_answer, slot_of, value_of, vacate_answer, of_slot, from_slot, get_cells, remove_cells}
-use Rattle.model.proofs.Checked.{then_ok, fillable_stores, fillable_ok, waiting_ok, found_ok, slot_ok}
+use Rattle.model.specs.Layouts.{Layout, oldest_slot, claimed, given, filled}
+use Rattle.model.specs.Checks.{then, fillable, waiting, storable, store_answer, fill_answer}
+use Rattle.model.proofs.Checked.{fillable_stores, fillable_ok}
 
 -- a slot that waits can be popped
 read_there : {A : Type 0} (o : Option A) (x : A) → ok_or o AuditFailed ≡ Ok x → is_ok (result_map_both Some (λ e. e) (ok_or o NoPlace)) ≡ true

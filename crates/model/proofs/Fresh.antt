@@ -1,15 +1,13 @@
 -- The cells of a fresh table mean the fresh table.
-use Rattle.std.proofs.Common.{◌≡◌, ℕ, zero, suc, ◌+◌, ◌-◌, ◌%◌, ◌<◌, ◌≤◌, cond, eqb, ltb, List, length, get_or, drop, set, is_ok, Some, Ok, Result, sym, refl, ap, ◌∙◌, subst, ⊎_elim, mod-eq_of_lt, arith, length-set}
-use native.Mathlib.Nat.{mod-zero, mod_self, mod-add-mod}
+use Rattle.std.proofs.Common.{◌≡◌, ℕ, zero, suc, ◌+◌, ◌-◌, ◌%◌, ◌<◌, ◌≤◌, eqb, ltb, List, length, get_or, drop, set, Some, sym, refl, ap, ◌∙◌, subst, ⊎_elim, mod-eq_of_lt, arith, length-set}
+use native.Mathlib.Nat.{mod_self}
 use Rattle.std.specs.List.{slice_get, range_with_len, AllByRecursion}
 use Rattle.std.proofs.lemmas.List.FromFn.{length-range_with_len, get_or-range_with_len}
 use Rattle.std.proofs.lemmas.List.{get_or-set_same, get_or-set_other, drop-set-lt}
 use Rattle.std.proofs.lemmas.Option.{slice_get-get_or}
 use Rattle.std.proofs.lemmas.Bool.{cases_eq, ne_eqb, lt-ltb, le-ltb, cond-true, cond-false}
 use Rattle.rows.specs.declared.cell.FreeListEntry.{FreeListEntry}
-use Rattle.refusal.specs.declared.Refusal.{Refusal}
-use Rattle.rows.proofs.Cells.{write_within}
-use Rattle.containers.specs.Queues.{QueueState, contents, empty, pushed, push_answer}
+use Rattle.containers.specs.Queues.{QueueState, contents}
 use Rattle.containers.proofs.Rounds.{same_nth, length_contents, nth_contents}
 use Rattle.model.specs.Counts.{sum_to, same, count}
 use Rattle.model.specs.Layouts.{Layout, SameBeyond, nil, unlinked, slot_at, link_at}

@@ -1,8 +1,7 @@
-use Rattle.std.proofs.Common.{◌≡◌, ◌+◌, length, set, replicate, sym, refl, ap, ◌∙◌, arith}
-use lib.Seq.{paste}
+use Rattle.std.proofs.Common.{◌+◌, set, sym, ap, ◌∙◌, arith}
 use Rattle.rows.specs.Cells.{read_at, window}
-use Rattle.rows.proofs.Cells.{read_gave, read_refused, get_d_window, length_window}
-use Rattle.codes.proofs.Groups.{gather_none, gather_more, gather_all}
+use Rattle.rows.proofs.Cells.{read_gave, get_d_window, length_window}
+use Rattle.codes.proofs.Groups.{gather_more}
 use Rattle.codes.proofs.packed.gather.Goals as goal
 
 pub loop-i-preserved : goal.loop-i-preserved

@@ -1,6 +1,6 @@
-use Rattle.std.proofs.Common.{◌≡◌, ◌+◌, set, refl, ap, ◌∙◌, arith}
+use Rattle.std.proofs.Common.{◌+◌, set, ap, ◌∙◌, arith}
 use lib.Seq.{paste}
-use Rattle.std.proofs.lemmas.List.Edits.{paste_none, paste_more}
+use Rattle.std.proofs.lemmas.List.Edits.{paste_more}
 use Rattle.codes.proofs.packed.scatter.Goals as goal
 
 pub loop-i-preserved : goal.loop-i-preserved

@@ -1,8 +1,8 @@
-use Rattle.std.proofs.Common.{◌*◌, length, Ok, sym, ap, ◌∙◌, arith}
+use Rattle.std.proofs.Common.{◌*◌, Ok, sym, ap, ◌∙◌, arith}
 use Rattle.rows.specs.Cells.{window}
 use Rattle.rows.proofs.Cells.{read_past}
 use Rattle.codes.specs.Packed.{packed}
-use Rattle.codes.proofs.Groups.{length_packed, packed_read, group_fits}
+use Rattle.codes.proofs.Groups.{length_packed, packed_read}
 use Rattle.codes.proofs.packed.PackedRowRow.read.Goals as goal
 
 pub returns-then-place-whole-clause-value : goal.returns-then-place-whole-clause-value
