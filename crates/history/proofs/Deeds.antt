@@ -1,9 +1,10 @@
 -- What an event did, by its call and its answer.
-use Rattle.std.proofs.Common.{◌≡◌, ℕ, ◌≢◌, Some, None, Option, sym, ap, ◌∙◌, inl, inr, arith}
+use Rattle.std.proofs.Common.{◌≡◌, ℕ, ◌≢◌, Some, None, Ok, Option, Result, sym, ap, ◌∙◌, inl, inr, arith}
+use Rattle.refusal.specs.declared.Refusal.{Refusal}
 use Rattle.history.specs.declared.calls.Call.{Call}
 use Rattle.history.specs.declared.calls.Call.TheVariants.{Insert, InsertAt, Remove, Replace, Get, Contains, NextFreeKey, Len, Capacity, IsEmpty, IsFull, Step}
 use Rattle.history.specs.declared.calls.Answer.{Answer}
-use Rattle.history.specs.declared.calls.Answer.TheVariants.{Done, Key, Value, Pair, Flag, Number, Refused}
+use Rattle.history.specs.declared.calls.Answer.TheVariants.{Done, Key, Value}
 use Rattle.history.specs.Histories.{Event, Fills, Filled, Writes, Written, Empties}
 
 pub data Deed (V : Type 0) : Type 0 where
@@ -13,36 +14,19 @@ pub data Deed (V : Type 0) : Type 0 where
   empty : ℕ → Deed V
 
 -- the deed that an answer grants: one at the key that it has; one that was done; one that gave a value back
-abbrev key_deed : {V : Type 0} → (ℕ → Deed V) → Answer V → Deed V
-key_deed f Done = nothing
-key_deed f (Key None) = nothing
-key_deed f (Key (Some k)) = f k
-key_deed f (Value o) = nothing
-key_deed f (Pair p) = nothing
-key_deed f (Flag b) = nothing
-key_deed f (Number n) = nothing
-key_deed f (Refused r) = nothing
+abbrev key_deed : {V : Type 0} → (ℕ → Deed V) → Result (Answer V) Refusal → Deed V
+key_deed f (Ok (Key (Some k))) = f k
+key_deed f _ = nothing
 
-abbrev done_deed : {V : Type 0} → Deed V → Answer V → Deed V
-done_deed d Done = d
-done_deed d (Key k) = nothing
-done_deed d (Value o) = nothing
-done_deed d (Pair p) = nothing
-done_deed d (Flag b) = nothing
-done_deed d (Number n) = nothing
-done_deed d (Refused r) = nothing
+abbrev done_deed : {V : Type 0} → Deed V → Result (Answer V) Refusal → Deed V
+done_deed d (Ok Done) = d
+done_deed d _ = nothing
 
-abbrev value_deed : {V : Type 0} → Deed V → Answer V → Deed V
-value_deed d Done = nothing
-value_deed d (Key k) = nothing
-value_deed d (Value None) = nothing
-value_deed d (Value (Some v)) = d
-value_deed d (Pair p) = nothing
-value_deed d (Flag b) = nothing
-value_deed d (Number n) = nothing
-value_deed d (Refused r) = nothing
+abbrev value_deed : {V : Type 0} → Deed V → Result (Answer V) Refusal → Deed V
+value_deed d (Ok (Value (Some v))) = d
+value_deed d _ = nothing
 
-abbrev pub deed_of : {V : Type 0} → Call V → Answer V → Deed V
+abbrev pub deed_of : {V : Type 0} → Call V → Result (Answer V) Refusal → Deed V
 deed_of (Insert v) a = key_deed (λ k. fill k v) a
 deed_of (InsertAt k v) a = done_deed (fill k v) a
 deed_of (Remove k) a = value_deed (empty k) a
@@ -60,20 +44,20 @@ abbrev pub deed : {V : Type 0} → Event V → Deed V
 deed e = deed_of e.call e.answer
 
 abbrev pub Replaces : {V : Type 0} → ℕ → V → Event V → Type 0
-Replaces {V} k v e = (old : V) × (e.call ≡ Replace k v) × (e.answer ≡ Value (Some old))
+Replaces {V} k v e = (old : V) × (e.call ≡ Replace k v) × (e.answer ≡ Ok (Value (Some old)))
 
-deed_is : {V : Type 0} (e : Event V) (c : Call V) (a : Answer V) → e.call ≡ c → e.answer ≡ a → deed e ≡ deed_of c a
+deed_is : {V : Type 0} (e : Event V) (c : Call V) (a : Result (Answer V) Refusal) → e.call ≡ c → e.answer ≡ a → deed e ≡ deed_of c a
 deed_is e c a p q = ap (λ x. deed_of x e.answer) p ∙ ap (deed_of c) q
 
 pub fills_deed : {V : Type 0} (k : ℕ) (v : V) (e : Event V) → Fills k v e → deed e ≡ fill k v
-fills_deed k v e (inl c) = deed_is e (Insert v) (Key (Some k)) c.0 c.1
-fills_deed k v e (inr c) = deed_is e (InsertAt k v) Done c.0 c.1
+fills_deed k v e (inl c) = deed_is e (Insert v) (Ok (Key (Some k))) c.0 c.1
+fills_deed k v e (inr c) = deed_is e (InsertAt k v) (Ok Done) c.0 c.1
 
 pub replaces_deed : {V : Type 0} (k : ℕ) (v : V) (e : Event V) → Replaces k v e → deed e ≡ write k v
-replaces_deed k v e c = deed_is e (Replace k v) (Value (Some c.0)) c.1 c.2
+replaces_deed k v e c = deed_is e (Replace k v) (Ok (Value (Some c.0))) c.1 c.2
 
 pub empties_deed : {V : Type 0} (k : ℕ) (e : Event V) → Empties k e → deed e ≡ empty k
-empties_deed k e c = deed_is e (Remove k) (Value (Some c.0)) c.1 c.2
+empties_deed k e c = deed_is e (Remove k) (Ok (Value (Some c.0))) c.1 c.2
 
 -- the key at which a deed wrote, filled or emptied, and what it wrote
 abbrev pub wrote_at : {V : Type 0} → Deed V → Option ℕ

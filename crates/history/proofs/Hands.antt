@@ -1,5 +1,5 @@
 -- The key that an insert gets, by the history before it.
-use Rattle.std.proofs.Common.{◌≡◌, ℕ, ◌<◌, ◌≤◌, ◌⊎◌, List, [], ◌∷◌, sym, refl, ap, ◌∙◌, subst, inl, inr, ⊎_elim, arith}
+use Rattle.std.proofs.Common.{◌≡◌, ℕ, ◌<◌, ◌≤◌, ◌⊎◌, List, [], ◌∷◌, Ok, sym, refl, ap, ◌∙◌, subst, inl, inr, ⊎_elim, arith}
 use Rattle.std.specs.List.{slice_get, AllByRecursion}
 use Rattle.std.proofs.ByRecursion.{All-weaker}
 use Rattle.std.proofs.lemmas.Bool.{cases_eq, cases_lt}
@@ -77,7 +77,7 @@ module _ {V : Type 0} (C : ℕ) (h : List (Event V)) (t : Table V) (told : Told 
             (cases_lt 0 (count j (k ∷ ks))),
       )
 
-  hands_first : (ks : List ℕ) → t.free ≡ ks → HandsOut C h (Key (slice_get ks 0))
+  hands_first : (ks : List ℕ) → t.free ≡ ks → HandsOut C h (Ok (Key (slice_get ks 0)))
   hands_first [] p =
       let all : AllHold C h = λ k b. unlisted_holds [] p k b refl in
       record { none = λ _. all; full = λ _. refl; some = λ vacancy. absurd (vacancy all) }
@@ -101,5 +101,5 @@ module _ {V : Type 0} (C : ℕ) (h : List (Event V)) (t : Table V) (told : Told 
         );
       }
 
-  pub hands_out : HandsOut C h (Key (insert_answer t))
+  pub hands_out : HandsOut C h (Ok (Key (insert_answer t)))
   hands_out = hands_first t.free refl

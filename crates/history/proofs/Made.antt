@@ -1,5 +1,5 @@
 -- Calls made by the cells are the calls made on what the cells mean.
-use Rattle.std.proofs.Common.{◌≡◌, ℕ, eqb, List, [], ◌∷◌, ◌++◌, sym, refl, ap, ◌∙◌, subst, append_assoc}
+use Rattle.std.proofs.Common.{◌≡◌, ℕ, eqb, List, [], ◌∷◌, ◌++◌, Ok, sym, refl, ap, ◌∙◌, subst, append_assoc}
 use Rattle.model.specs.Checks.{insert_cells, insert_at_cells, remove_cells, get_cells}
 use Rattle.model.specs.Layouts.{Layout, capacity, Legal, SameBeyond}
 use Rattle.model.specs.Sound.{Means, Follows}
@@ -9,26 +9,26 @@ use Rattle.model.proofs.Calls.{get_answers, insert_both, insert_at_both, replace
 use Rattle.model.proofs.Readers.{contains_answers, head_answers, len_answers, step_answers}
 use Rattle.history.specs.declared.calls.Call.{Call}
 use Rattle.history.specs.declared.calls.Call.TheVariants.{Insert, InsertAt, Remove, Replace, Get, Contains, NextFreeKey, Len, Capacity, IsEmpty, IsFull, Step}
-use Rattle.history.specs.declared.calls.Answer.TheVariants.{Key, Pair, Flag, Number}
-use Rattle.history.specs.Calls.{done, keyed, valued, flagged, answer_to, after, answers_to, after_all, cells_answer, cells_after, cells_answers, cells_after_all}
+use Rattle.history.specs.declared.calls.Answer.TheVariants.{Done, Key, Value, Pair, Flag, Number}
+use Rattle.history.specs.Calls.{answer_of, answer_to, after, answers_to, after_all, cells_answer, cells_after, cells_answers, cells_after_all}
 use Rattle.history.specs.Histories.{Event}
 use Rattle.history.specs.Promise.{Reached, calls, answers, paired}
 use Rattle.history.proofs.Reached.{reached_more}
 
 -- one call
 pub call_follows : {V : Type 0} (l : Layout V) (c : Call V) → Follows l (cells_answer l c) (cells_after l c) (λ t. answer_to t c) (λ t. after t c)
-call_follows l (Insert v) t h = let both = insert_both l t h v in (ap keyed both.0, both.1)
-call_follows l (InsertAt k v) t h = let both = insert_at_both l t h k v in (ap done both.0, both.1)
-call_follows l (Remove k) t h = let both = remove_both l t h k in (ap valued both.0, both.1)
-call_follows l (Replace k v) t h = let both = replace_both l t h k v in (ap valued both.0, both.1)
-call_follows l (Get k) t h = (ap valued (get_answers l t h k), h)
-call_follows l (Contains k) t h = (ap flagged (contains_answers l t h k), h)
-call_follows l NextFreeKey t h = (ap Key (head_answers l t h), h)
-call_follows l Len t h = (ap Number (len_answers l t h), h)
-call_follows l Capacity t h = (ap Number (sym h.size), h)
-call_follows l IsEmpty t h = (ap (λ n. Flag (eqb n 0)) (len_answers l t h), h)
-call_follows l IsFull t h = (ap (λ n. Flag (eqb n (capacity l))) (len_answers l t h) ∙ ap (λ n. Flag (eqb (len_answer t) n)) (sym h.size), h)
-call_follows l (Step p) t h = (ap Pair (step_answers l t h p), h)
+call_follows l (Insert v) t h = let both = insert_both l t h v in (ap (answer_of Key) both.0, both.1)
+call_follows l (InsertAt k v) t h = let both = insert_at_both l t h k v in (ap (answer_of (λ _. Done)) both.0, both.1)
+call_follows l (Remove k) t h = let both = remove_both l t h k in (ap (answer_of Value) both.0, both.1)
+call_follows l (Replace k v) t h = let both = replace_both l t h k v in (ap (answer_of Value) both.0, both.1)
+call_follows l (Get k) t h = (ap (answer_of Value) (get_answers l t h k), h)
+call_follows l (Contains k) t h = (ap (answer_of Flag) (contains_answers l t h k), h)
+call_follows l NextFreeKey t h = (ap (λ k. Ok (Key k)) (head_answers l t h), h)
+call_follows l Len t h = (ap (λ n. Ok (Number n)) (len_answers l t h), h)
+call_follows l Capacity t h = (ap (λ n. Ok (Number n)) (sym h.size), h)
+call_follows l IsEmpty t h = (ap (λ n. Ok (Flag (eqb n 0))) (len_answers l t h), h)
+call_follows l IsFull t h = (ap (λ n. Ok (Flag (eqb n (capacity l)))) (len_answers l t h) ∙ ap (λ n. Ok (Flag (eqb (len_answer t) n))) (sym h.size), h)
+call_follows l (Step p) t h = (ap (λ p. Ok (Pair p)) (step_answers l t h p), h)
 
 pub call_beyond : {V : Type 0} (l : Layout V) (c : Call V) → Legal l.slots → SameBeyond l (cells_after l c)
 call_beyond l (Insert v) legal = insert_beyond l v (insert_cells l) _ refl refl

@@ -1,7 +1,8 @@
 -- What is promised of a table holds after every list of calls.
-use Rattle.std.proofs.Common.{◌≡◌, ℕ, ◌<◌, ◌≢◌, List, [], ◌∷◌, ◌++◌, Some, Ok, sym, refl, ap, ◌∙◌, subst, arith}
+use Rattle.std.proofs.Common.{◌≡◌, ℕ, ◌<◌, ◌≢◌, List, [], ◌∷◌, ◌++◌, Some, Ok, Result, sym, refl, ap, ◌∙◌, subst, arith}
 use Rattle.std.proofs.lemmas.List.{map-append}
 use Rattle.std.proofs.lemmas.Bool.{lt-ltb, cond-true}
+use Rattle.refusal.specs.declared.Refusal.{Refusal}
 use Rattle.model.specs.Counts.{count}
 use Rattle.model.specs.Layouts.{Layout, capacity, nil, slot_at}
 use Rattle.model.specs.Sound.{Means, Follows}
@@ -92,7 +93,7 @@ reached_from C h l p m =
 pub reached_fresh : {V : Type 0} (C : ℕ) (l : Layout V) → Means l (fresh C) → Reached C [] l
 reached_fresh C l m = reached_from C [] l refl m
 
-pub reached_more : {V : Type 0} (C : ℕ) (h : List (Event V)) (l l' : Layout V) (c : Call V) (a : Answer V)
+pub reached_more : {V : Type 0} (C : ℕ) (h : List (Event V)) (l l' : Layout V) (c : Call V) (a : Result (Answer V) Refusal)
     → Reached C h l → Follows l a l' (λ t. answer_to t c) (λ t. after t c)
     → Reached C (h ++ ((record { call = c; answer = a }) ∷ [])) l'
 reached_more {V} C h l l' c a r follows =

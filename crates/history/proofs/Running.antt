@@ -62,7 +62,7 @@ length_answers l [] = refl
 length_answers l (c ∷ cs) = let r = length_answers (cells_after l c) cs in omega (arith, r)
 
 -- a run as far as i, and one call more
-pub run_more : {V : Type 0} (o l n : Layout V) (cs : List (Call V)) (xs ys zs : List (Answer V)) (i : ℕ) (c : Call V) (a : Answer V)
+pub run_more : {V : Type 0} (o l n : Layout V) (cs : List (Call V)) (xs ys zs : List (Result (Answer V) Refusal)) (i : ℕ) (c : Call V) (a : Result (Answer V) Refusal)
     → i < length cs → i < length xs → c ≡ get_or cs i c → a ≡ cells_answer l c → n ≡ cells_after l c → zs ≡ set ys i a
     → l ≡ cells_after_all o (take i cs) → ys ≡ cells_answers o (take i cs) ++ drop i xs
     → (n ≡ cells_after_all o (take (i + 1) cs)) × (zs ≡ cells_answers o (take (i + 1) cs) ++ drop (i + 1) xs)
@@ -70,10 +70,10 @@ run_more o l n cs xs ys zs i c a bc bx ec ea en ez il iy =
     let t : take (i + 1) cs ≡ take i cs ++ (c ∷ []) = take_more cs i c bc ∙ ap (λ d. take i cs ++ (d ∷ [])) (sym ec) in
     let answer : a ≡ cells_answer (cells_after_all o (take i cs)) c = ea ∙ ap (λ m. cells_answer m c) il in
     let sized : length (cells_answers o (take i cs)) ≡ i = length_answers o (take i cs) ∙ length-take i cs ∙ omega arith in
-    let old = get_or xs i Done in (
+    let old = get_or xs i (Ok Done) in (
       en ∙ ap (λ m. cells_after m c) il ∙ sym (after_more o (take i cs) c) ∙ ap (cells_after_all o) (sym t),
       ez
-          ∙ ap (λ q. set q i a) (iy ∙ ap (λ q. cells_answers o (take i cs) ++ q) (drop_more xs i Done bx))
+          ∙ ap (λ q. set q i a) (iy ∙ ap (λ q. cells_answers o (take i cs) ++ q) (drop_more xs i (Ok Done) bx))
           ∙ set_at (cells_answers o (take i cs)) old (drop (i + 1) xs) a i sized
           ∙ sym (append_assoc (cells_answers o (take i cs)) (a ∷ []) (drop (i + 1) xs))
           ∙ ap (λ q. (cells_answers o (take i cs) ++ (q ∷ [])) ++ drop (i + 1) xs) answer
@@ -81,7 +81,7 @@ run_more o l n cs xs ys zs i c a bc bx ec ea en ez il iy =
     )
 
 -- so the promise is carried on
-pub run_reached : {V : Type 0} (o l : Layout V) (cs : List (Call V)) (xs ys : List (Answer V)) (n C : ℕ) (h : List (Event V))
+pub run_reached : {V : Type 0} (o l : Layout V) (cs : List (Call V)) (xs ys : List (Result (Answer V) Refusal)) (n C : ℕ) (h : List (Event V))
     → n ≤ length cs → l ≡ cells_after_all o (take n cs) → ys ≡ cells_answers o (take n cs) ++ drop n xs
     → Reached C h o → Reached C (h ++ paired (take n cs) (take n ys)) l
 run_reached o l cs xs ys n C h b el ey r =

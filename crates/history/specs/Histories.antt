@@ -1,7 +1,8 @@
 -- A history of a table: its calls with their answers, oldest first; and what they tell of its keys, without a
 -- look at its cells.
-use Rattle.std.specs.Prelude.{◌≡◌, ℕ, ◌<◌, ◌⊎◌, List, ◌∷◌, ◌++◌, Some, None}
+use Rattle.std.specs.Prelude.{◌≡◌, ℕ, ◌<◌, ◌⊎◌, List, ◌∷◌, ◌++◌, Some, None, Ok, Result}
 use Rattle.std.specs.List.{AllByRecursion}
+use Rattle.refusal.specs.declared.Refusal.{Refusal}
 use Rattle.history.specs.declared.calls.Call.{Call}
 use Rattle.history.specs.declared.calls.Call.TheVariants.{Insert, InsertAt, Remove, Replace}
 use Rattle.history.specs.declared.calls.Answer.{Answer}
@@ -10,25 +11,25 @@ use Rattle.history.specs.declared.calls.Answer.TheVariants.{Done, Key, Value}
 -- a call and its answer
 pub record Event (V : Type 0) : Type 0 where
   pub call : Call V
-  pub answer : Answer V
+  pub answer : Result (Answer V) Refusal
 
 -- an accepted insert or insert_at of v at key k
 abbrev pub Fills : {V : Type 0} → ℕ → V → Event V → Type 0
-Fills k v e = ((e.call ≡ Insert v) × (e.answer ≡ Key (Some k))) ⊎ ((e.call ≡ InsertAt k v) × (e.answer ≡ Done))
+Fills k v e = ((e.call ≡ Insert v) × (e.answer ≡ Ok (Key (Some k)))) ⊎ ((e.call ≡ InsertAt k v) × (e.answer ≡ Ok Done))
 
 abbrev pub Filled : {V : Type 0} → ℕ → Event V → Type 0
 Filled {V} k e = (v : V) × Fills k v e
 
 -- an accepted insert, insert_at or replace of v at key k
 abbrev pub Writes : {V : Type 0} → ℕ → V → Event V → Type 0
-Writes {V} k v e = Fills k v e ⊎ ((old : V) × (e.call ≡ Replace k v) × (e.answer ≡ Value (Some old)))
+Writes {V} k v e = Fills k v e ⊎ ((old : V) × (e.call ≡ Replace k v) × (e.answer ≡ Ok (Value (Some old))))
 
 abbrev pub Written : {V : Type 0} → ℕ → Event V → Type 0
 Written {V} k e = (v : V) × Writes k v e
 
 -- an accepted remove of key k
 abbrev pub Empties : {V : Type 0} → ℕ → Event V → Type 0
-Empties {V} k e = (old : V) × (e.call ≡ Remove k) × (e.answer ≡ Value (Some old))
+Empties {V} k e = (old : V) × (e.call ≡ Remove k) × (e.answer ≡ Ok (Value (Some old)))
 
 -- an event that changes nothing: it is no accepted insert, insert_at, replace or remove, at any key
 abbrev pub Idle : {V : Type 0} → Event V → Type 0
@@ -69,7 +70,7 @@ SmallestUnused C k h = ((j : ℕ) → j < C → Vacant j h → Never (Empties j)
 -- The answer a of an insert after the history h, on a table of C keys: none exactly when every key holds a
 -- value; otherwise the vacant key that was emptied latest, or the smallest vacant key where no vacant one was
 -- ever emptied.
-pub record HandsOut {V : Type 0} (C : ℕ) (h : List (Event V)) (a : Answer V) : Type 0 where
-  pub none : a ≡ Key None → AllHold C h
-  pub full : AllHold C h → a ≡ Key None
-  pub some : (AllHold C h → ⊥) → (k : ℕ) × (a ≡ Key (Some k)) × (k < C) × Vacant k h × (EmptiedLatest C k h ⊎ SmallestUnused C k h)
+pub record HandsOut {V : Type 0} (C : ℕ) (h : List (Event V)) (a : Result (Answer V) Refusal) : Type 0 where
+  pub none : a ≡ Ok (Key None) → AllHold C h
+  pub full : AllHold C h → a ≡ Ok (Key None)
+  pub some : (AllHold C h → ⊥) → (k : ℕ) × (a ≡ Ok (Key (Some k))) × (k < C) × Vacant k h × (EmptiedLatest C k h ⊎ SmallestUnused C k h)

@@ -1,6 +1,7 @@
 -- What is promised of a table after a history of calls.
-use Rattle.std.specs.Prelude.{◌≡◌, ℕ, ◌<◌, ◌≢◌, List, [], ◌∷◌, ◌++◌, map, Some, Ok}
+use Rattle.std.specs.Prelude.{◌≡◌, ℕ, ◌<◌, ◌≢◌, List, [], ◌∷◌, ◌++◌, map, Some, Ok, Result}
 use Rattle.std.specs.List.{slice_get}
+use Rattle.refusal.specs.declared.Refusal.{Refusal}
 use Rattle.model.specs.Checks.{get_cells}
 use Rattle.model.specs.Layouts.{Layout, capacity, nil, slot_at}
 use Rattle.model.specs.Sound.{Means, Stands}
@@ -14,11 +15,11 @@ use Rattle.history.specs.Histories.{Event, Holds, LastWrote, HandsOut}
 abbrev pub calls : {V : Type 0} → List (Event V) → List (Call V)
 calls h = map (λ e. e.call) h
 
-abbrev pub answers : {V : Type 0} → List (Event V) → List (Answer V)
+abbrev pub answers : {V : Type 0} → List (Event V) → List (Result (Answer V) Refusal)
 answers h = map (λ e. e.answer) h
 
 -- calls with their answers
-abbrev pub paired : {V : Type 0} → List (Call V) → List (Answer V) → List (Event V)
+abbrev pub paired : {V : Type 0} → List (Call V) → List (Result (Answer V) Refusal) → List (Event V)
 paired [] xs = []
 paired (c ∷ cs) [] = []
 paired (c ∷ cs) (a ∷ xs) = record { call = c; answer = a } ∷ paired cs xs

@@ -1,9 +1,8 @@
 // The calls of a table, and their answers, as values.
-use refusal::Refusal;
 
 // A call of a table that holds values of kind `V`. A step is that of a cursor which stands at
 // the given place.
-#[derive(Clone, Copy)]
+#[derive(Clone, Copy, PartialEq, Eq, Debug)]
 pub enum Call<V> {
     Insert(V),
     InsertAt(u32, V),
@@ -19,6 +18,7 @@ pub enum Call<V> {
     Step(u32),
 }
 
+// What is answered to a call that is not refused, so that a call gets a `Result<Answer<V>, Refusal>`.
 #[derive(Clone, Copy, PartialEq, Eq, Debug)]
 pub enum Answer<V> {
     // the call was made, and has no more to say
@@ -28,5 +28,4 @@ pub enum Answer<V> {
     Pair(Option<(u32, V)>),
     Flag(bool),
     Number(u32),
-    Refused(Refusal),
 }

@@ -1,5 +1,5 @@
 // Calls given as values, with the promise that they carry on.
-ghost use Rattle.std.specs.Prelude.{◌≡◌, List, [], ◌∷◌, ◌++◌, ℕ, ◌<◌, min, length, set, take, drop};
+ghost use Rattle.std.specs.Prelude.{◌≡◌, List, [], ◌∷◌, ◌++◌, ℕ, ◌<◌, min, length, take, drop};
 ghost use Rattle.model.specs.Layouts.{SameBeyond};
 ghost use Rattle.model.specs.Sound.{Follows};
 ghost use Rattle.history.specs.Calls.{answer_to, after, cells_answer, cells_after, cells_answers, cells_after_all};
@@ -8,11 +8,12 @@ ghost use Rattle.history.specs.Promise.{Reached, paired};
 
 use crate::making::make;
 use history::{Answer, Call};
+use refusal::Refusal;
 use slotmap::SlotMap;
 
 // Makes one call, and answers it. A table that was reached by some history is then reached by that history
 // and this call.
-pub fn perform<T: SlotMap>(table: &mut T, call: Call<T::Value>) -> Answer<T::Value>
+pub fn perform<T: SlotMap>(table: &mut T, call: Call<T::Value>) -> Result<Answer<T::Value>, Refusal>
     ensures value { result ≡ cells_answer (T.SlotMap.layout table.old) call }
     ensures after { T.SlotMap.layout table.new ≡ cells_after (T.SlotMap.layout table.old) call }
     ensures beyond { SameBeyond (T.SlotMap.layout table.old) (T.SlotMap.layout table.new) }
@@ -24,21 +25,13 @@ pub fn perform<T: SlotMap>(table: &mut T, call: Call<T::Value>) -> Answer<T::Val
     make(table, call)
 }
 
-// Stores `x` at `i`.
-fn put<V: Copy>(items: &mut [V], i: usize, x: V)
-    requires { i < length items.old }
-    ensures { items.new ≡ set items.old i x }
-{
-    items[i] = x;
-}
-
 // Makes calls one after another, as many as `answers` has places, and answers how many it made; their
 // answers go to `answers`. A table that was reached by some history is then reached by that history and
 // these calls.
 pub fn run<T: SlotMap>(
     table: &mut T,
     calls: &[Call<T::Value>],
-    answers: &mut [Answer<T::Value>],
+    answers: &mut [Result<Answer<T::Value>, Refusal>],
 ) -> usize
     ensures count { result ≡ min (length calls.now) (length answers.old) }
     ensures value { answers.new ≡ cells_answers (T.SlotMap.layout table.old) (take result calls.now) ++ drop result answers.old }
@@ -48,9 +41,8 @@ pub fn run<T: SlotMap>(
     ensures reached { (C : ℕ) (h : List (Event T.Value)) → Reached C h (T.SlotMap.layout table.old) → Reached C (h ++ paired (take result calls.now) (take result answers.new)) (T.SlotMap.layout table.new) }
 {
     let count = calls.len().min(answers.len());
-    for i in 0..count {
-        let answer = perform(table, calls[i]);
-        put(answers, i, answer);
+    for (i, answer) in answers[..count].iter_mut().enumerate() {
+        *answer = perform(table, calls[i]);
     }
     count
 }

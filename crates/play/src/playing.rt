@@ -9,6 +9,7 @@ ghost use Rattle.history.specs.Promise.{Reached, paired};
 
 use crate::performing::run;
 use history::{Answer, Call};
+use refusal::Refusal;
 use rows::{FreeListEntry, Row};
 use slotmap::{MetaSlotMap, Plan, SlotMap};
 
@@ -28,7 +29,7 @@ pub fn play<X: Row<Item = u32>, L: Row<Item = FreeListEntry>, D: Row, Q: Row<Ite
     values: D,
     slots: Q,
     calls: &[Call<D::Item>],
-    answers: &mut [Answer<D::Item>],
+    answers: &mut [Result<Answer<D::Item>, Refusal>],
 ) -> Played<X, L, D, Q>
     ensures count { result.count ≡ min (length calls.now) (length answers.old) }
     ensures answered { answers.new ≡ answers_to (fresh (size_over plan.capacity (X.Row.cells index) (L.Row.cells links) (D.Row.cells values) (Q.Row.cells slots))) (take result.count calls.now) ++ drop result.count answers.old }

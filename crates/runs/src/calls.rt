@@ -1,21 +1,10 @@
-// Calls of a queue of numbers, and their answers, as values.
-use refusal::Refusal;
+// Calls of a queue of numbers, as values.
 
-#[derive(Clone, Copy)]
+#[derive(Clone, Copy, PartialEq, Eq, Debug)]
 pub enum QueueCall {
     Push(u32),
     PushWithOverflow(u32),
     Pop,
     Peek,
     Get(usize),
-}
-
-#[derive(Clone, Copy, PartialEq, Eq, Debug)]
-pub enum QueueAnswer {
-    // the call was made, and has no more to say
-    Done,
-    // none
-    Nothing,
-    Number(u32),
-    Refused(Refusal),
 }

@@ -6,6 +6,6 @@ mod calls;
 mod making;
 mod worked;
 
-pub use calls::{QueueAnswer, QueueCall};
+pub use calls::QueueCall;
 pub use making::perform;
 pub use worked::worked_runs;

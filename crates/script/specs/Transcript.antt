@@ -4,6 +4,7 @@ use Rattle.std.specs.List.{range_with_len, flat_map}
 use Rattle.std.specs.Option.{option_map, option_to_list}
 use Rattle.std.specs.declared.alloc.AllocError.{AllocError}
 use Rattle.refusal.specs.Told.{spelt}
+use Rattle.refusal.specs.declared.Refusal.{Refusal}
 use Rattle.refusal.specs.declared.Refusal.TheVariants.{PlanTooLarge, LineNotLegal}
 use Rattle.model.specs.Layouts.{Layout}
 use Rattle.model.specs.Sound.{Means}
@@ -15,7 +16,7 @@ use Rattle.cells.specs.declared.slotmap.MetaSlotMap.{MetaSlotMap}
 use Rattle.history.specs.Calls.{answer_to, after}
 use Rattle.history.specs.declared.calls.Call.TheVariants as call
 use Rattle.history.specs.declared.calls.Answer.{Answer}
-use Rattle.history.specs.declared.calls.Answer.TheVariants.{Done, Key, Value, Pair, Flag, Number, Refused}
+use Rattle.history.specs.declared.calls.Answer.TheVariants.{Done, Key, Value, Pair, Flag, Number}
 use Rattle.text.specs.Lines.{lines}
 use Rattle.scanner.specs.Legal.{scanned}
 use Rattle.scanner.specs.declared.command.Command.{Command}
@@ -31,16 +32,16 @@ abbrev pub pair_text : ℕ × ℕ → List ℕ
 pair_text pair = decimal pair.0 ++ (codes "=" ++ decimal pair.1)
 
 -- the words of an answer
-abbrev pub said : Answer ℕ → List ℕ
-said Done = codes "ok"
-said (Key k) = number_or_none k
-said (Value v) = number_or_none v
-said (Pair None) = codes "none"
-said (Pair (Some pair)) = pair_text pair
-said (Flag true) = codes "yes"
-said (Flag false) = codes "no"
-said (Number n) = decimal n
-said (Refused refusal) = spelt refusal
+abbrev pub said : Result (Answer ℕ) Refusal → List ℕ
+said (Ok Done) = codes "ok"
+said (Ok (Key k)) = number_or_none k
+said (Ok (Value v)) = number_or_none v
+said (Ok (Pair None)) = codes "none"
+said (Ok (Pair (Some pair))) = pair_text pair
+said (Ok (Flag true)) = codes "yes"
+said (Ok (Flag false)) = codes "no"
+said (Ok (Number n)) = decimal n
+said (Err refusal) = spelt refusal
 
 -- the holding keys from p on with their values, in rising order
 abbrev pub pairs_from : Table ℕ → ℕ → List (ℕ × ℕ)

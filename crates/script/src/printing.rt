@@ -54,19 +54,19 @@ pub(crate) fn print_refusal(
 pub(crate) fn print_answer(
     heap: Global,
     out: &mut String,
-    answer: Answer<u32>,
+    answer: Result<Answer<u32>, Refusal>,
 ) -> Result<(), AllocError>
     ensures { OnOk result (string_bytes out.new ≡ string_bytes out.old ++ said answer) }
 {
     match answer {
-        Answer::Done => out.push_str("ok"),
-        Answer::Key(key) => print_optional(heap, out, key),
-        Answer::Value(value) => print_optional(heap, out, value),
-        Answer::Pair(None) => out.push_str("none"),
-        Answer::Pair(Some((key, value))) => print_pair(heap, out, key, value),
-        Answer::Flag(true) => out.push_str("yes"),
-        Answer::Flag(false) => out.push_str("no"),
-        Answer::Number(n) => print_number(heap, out, n),
-        Answer::Refused(refusal) => print_refusal(heap, out, refusal),
+        Ok(Answer::Done) => out.push_str("ok"),
+        Ok(Answer::Key(key)) => print_optional(heap, out, key),
+        Ok(Answer::Value(value)) => print_optional(heap, out, value),
+        Ok(Answer::Pair(None)) => out.push_str("none"),
+        Ok(Answer::Pair(Some((key, value)))) => print_pair(heap, out, key, value),
+        Ok(Answer::Flag(true)) => out.push_str("yes"),
+        Ok(Answer::Flag(false)) => out.push_str("no"),
+        Ok(Answer::Number(n)) => print_number(heap, out, n),
+        Err(refusal) => print_refusal(heap, out, refusal),
     }
 }

@@ -33,33 +33,30 @@ fn script() -> [Call<u32>; 16] {
     ]
 }
 
-fn expected() -> [Answer<u32>; 16] {
+fn expected() -> [Result<Answer<u32>, Refusal>; 16] {
     [
-        Answer::Done,
-        Answer::Key(Some(1)),
-        Answer::Key(Some(2)),
-        Answer::Done,
-        Answer::Value(Some(5)),
-        Answer::Value(None),
-        Answer::Value(Some(6)),
-        Answer::Value(Some(7)),
-        Answer::Value(None),
-        Answer::Key(Some(1)),
-        Answer::Pair(Some((1, 8))),
-        Answer::Pair(Some((3, 9))),
-        Answer::Refused(Refusal::KeyPastTable),
-        Answer::Number(2),
-        Answer::Key(Some(0)),
-        Answer::Key(Some(2)),
+        Ok(Answer::Done),
+        Ok(Answer::Key(Some(1))),
+        Ok(Answer::Key(Some(2))),
+        Ok(Answer::Done),
+        Ok(Answer::Value(Some(5))),
+        Ok(Answer::Value(None)),
+        Ok(Answer::Value(Some(6))),
+        Ok(Answer::Value(Some(7))),
+        Ok(Answer::Value(None)),
+        Ok(Answer::Key(Some(1))),
+        Ok(Answer::Pair(Some((1, 8)))),
+        Ok(Answer::Pair(Some((3, 9)))),
+        Err(Refusal::KeyPastTable),
+        Ok(Answer::Number(2)),
+        Ok(Answer::Key(Some(0))),
+        Ok(Answer::Key(Some(2))),
     ]
 }
 
-fn as_expected(rt: &impl Abort, answers: &[Answer<u32>]) {
+fn as_expected(rt: &impl Abort, answers: &[Result<Answer<u32>, Refusal>]) {
     let expected = expected();
-    assert!(rt; answers.len() == 16);
-    for i in 0..16 {
-        assert_eq!(rt; answers[i], expected[i]);
-    }
+    assert_eq!(rt; answers, expected.as_slice());
 }
 
 #[test]
@@ -68,7 +65,7 @@ fn over_slices(rt: HostRuntime) {
     let mut links = [LINK; 6];
     let mut values = [0; 4];
     let mut slots = [9; 4];
-    let mut answers = [Answer::Done; 16];
+    let mut answers = [Ok(Answer::Done); 16];
     let played = play(
         Plan::new(70000),
         SliceRow::new(&mut index),
@@ -84,7 +81,7 @@ fn over_slices(rt: HostRuntime) {
 
 #[test]
 fn inside_the_table(rt: HostRuntime) {
-    let mut answers = [Answer::Done; 16];
+    let mut answers = [Ok(Answer::Done); 16];
     let played = play(
         Plan::new(4),
         InlineRow::filled(1),
@@ -112,7 +109,7 @@ fn in_four_parts_of_one_slice_of_bytes(rt: HostRuntime) {
     let links: PackedRow<FreeListEntry, SliceRow<u8>> = PackedRow::new(SliceRow::new(link_bytes));
     let values: PackedRow<u32, SliceRow<u8>> = PackedRow::new(SliceRow::new(value_bytes));
     let slots: PackedRow<u32, SliceRow<u8>> = PackedRow::new(SliceRow::new(slot_bytes));
-    let mut answers = [Answer::Done; 16];
+    let mut answers = [Ok(Answer::Done); 16];
     let played = play(
         Plan::new(4),
         index,
@@ -128,7 +125,7 @@ fn in_four_parts_of_one_slice_of_bytes(rt: HostRuntime) {
 
 #[test]
 fn as_many_calls_as_places(rt: HostRuntime) {
-    let mut answers = [Answer::Number(77); 2];
+    let mut answers = [Ok(Answer::Number(77)); 2];
     let played = play(
         Plan::new(1),
         InlineRow::filled(1),
@@ -139,6 +136,6 @@ fn as_many_calls_as_places(rt: HostRuntime) {
         &mut answers,
     );
     assert_eq!(rt; played.count, 1);
-    assert_eq!(rt; answers[0], Answer::Key(Some(0)));
-    assert_eq!(rt; answers[1], Answer::Number(77));
+    assert_eq!(rt; answers[0], Ok(Answer::Key(Some(0))));
+    assert_eq!(rt; answers[1], Ok(Answer::Number(77)));
 }

@@ -2,9 +2,10 @@
 // its range.
 use codes::PackedRow;
 use containers::{MetaQueue, MetaVec};
+use history::Answer;
 use refusal::Refusal;
 use rows::{InlineRow, Row, SliceRow};
-use runs::{QueueAnswer, QueueCall, perform};
+use runs::{QueueCall, perform};
 use std::process::Abort;
 use std::test::Fail;
 
@@ -18,20 +19,20 @@ const CALLS: [QueueCall; 7] = [
     QueueCall::Get(3),
 ];
 
-const ANSWERS: [QueueAnswer; 7] = [
-    QueueAnswer::Done,
-    QueueAnswer::Done,
-    QueueAnswer::Done,
-    QueueAnswer::Refused(Refusal::NoSpace),
-    QueueAnswer::Number(1),
-    QueueAnswer::Number(2),
-    QueueAnswer::Refused(Refusal::PlacePastLength),
+const ANSWERS: [Result<Answer<u32>, Refusal>; 7] = [
+    Ok(Answer::Done),
+    Ok(Answer::Done),
+    Ok(Answer::Done),
+    Err(Refusal::NoSpace),
+    Ok(Answer::Value(Some(1))),
+    Ok(Answer::Number(2)),
+    Err(Refusal::PlacePastLength),
 ];
 
 // Makes the calls of the worked run, and holds each answer to the stated one.
 fn run<R: Row<Item = u32>>(rt: &impl Abort, queue: &mut MetaQueue<R>) {
-    for i in 0..7 {
-        assert_eq!(rt; perform(queue, CALLS[i]), ANSWERS[i]);
+    for (call, answer) in CALLS.iter().zip(&ANSWERS) {
+        assert_eq!(rt; perform(queue, *call), *answer);
     }
 }
 

@@ -1,41 +1,24 @@
-use mathlib.Core.Path.{subst}
-use borrow.Author.Rules.{rules}
-use Rattle.history.specs.Histories.{Idle}
+use Rattle.std.proofs.Common.{ap, ◌∙◌, rules}
 use Rattle.history.proofs.Idle.{idle_insert, idle_insert_at, idle_remove, idle_replace}
 use Rattle.play.proofs.making.make.Goals as goal
+use Rattle.play.proofs.making.make.Goals.{in-Insert+in_ok-insert-in-Insert, in-InsertAt+in_ok-insert_at-in-InsertAt, in-Remove+in_ok-remove-in-Remove, in-Replace+in_ok-replace-in-Replace, in-Get+in_ok-get-in-Get, in-Contains+in_ok-contains-in-Contains, in-NextFreeKey, in-Len, in-Capacity, in-IsEmpty, in-IsFull, in-Step}
 
-pub returns-in-Insert : goal.returns-in-Insert
-returns-in-Insert g c =
-    record {
-      value = search rules;
-      after = search rules;
-      kept = λ idle. c.insert.ensures.kept (idle_insert c.in-Insert.value c.answer_key.result c.insert.result c.answer_key.ensures (subst (λ q. Idle (record { call = q; answer = c.answer_key.result })) c.in-Insert.is idle));
-      beside = search rules;
-    }
-
-pub returns-in-InsertAt : goal.returns-in-InsertAt
-returns-in-InsertAt g c =
-    record {
-      value = search rules;
-      after = search rules;
-      kept = λ idle. c.insert_at.ensures.kept (idle_insert_at c.in-InsertAt.key c.in-InsertAt.value c.answer_done.result c.insert_at.result c.answer_done.ensures (subst (λ q. Idle (record { call = q; answer = c.answer_done.result })) c.in-InsertAt.is idle));
-      beside = search rules;
-    }
-
-pub returns-in-Remove : goal.returns-in-Remove
-returns-in-Remove g c =
-    record {
-      value = search rules;
-      after = search rules;
-      kept = λ idle. c.remove.ensures.kept (idle_remove c.in-Remove.key c.answer_value.result c.remove.result c.answer_value.ensures (subst (λ q. Idle (record { call = q; answer = c.answer_value.result })) c.in-Remove.is idle));
-      beside = search rules;
-    }
-
-pub returns-in-Replace : goal.returns-in-Replace
-returns-in-Replace g c =
-    record {
-      value = search rules;
-      after = search rules;
-      kept = λ idle. c.replace.ensures.kept (idle_replace c.in-Replace.key c.in-Replace.value c.answer_value-in-Replace.result c.replace.result c.answer_value-in-Replace.ensures (subst (λ q. Idle (record { call = q; answer = c.answer_value-in-Replace.result })) c.in-Replace.is idle));
-      beside = search rules;
-    }
+pub returns-clause-kept : goal.returns-clause-kept
+returns-clause-kept g c idle =
+    let stored = g.T.SlotMap.stored in
+    let call = c.args.call in
+    let answer = c.match-call.result in
+    elim c.match-call.branch [
+      | in-Insert+in_ok-insert-in-Insert w ↦ ap stored w.table-is ∙ w.insert.ensures.kept (idle_insert call answer _ _ _ w.in-Insert.is w.in_ok-insert-in-Insert.was w.result-is idle)
+      | in-InsertAt+in_ok-insert_at-in-InsertAt w ↦ ap stored w.table-is ∙ w.insert_at.ensures.kept (idle_insert_at call answer _ _ _ w.in-InsertAt.is w.result-is idle)
+      | in-Remove+in_ok-remove-in-Remove w ↦ ap stored w.table-is ∙ w.remove.ensures.kept (idle_remove call answer _ _ _ w.in-Remove.is w.in_ok-remove-in-Remove.was w.result-is idle)
+      | in-Replace+in_ok-replace-in-Replace w ↦ ap stored w.table-is ∙ w.replace.ensures.kept (idle_replace call answer _ _ _ _ w.in-Replace.is w.in_ok-replace-in-Replace.was w.result-is idle)
+      | in-Get+in_ok-get-in-Get w ↦ search rules
+      | in-Contains+in_ok-contains-in-Contains w ↦ search rules
+      | in-NextFreeKey w ↦ search rules
+      | in-Len w ↦ search rules
+      | in-Capacity w ↦ search rules
+      | in-IsEmpty w ↦ search rules
+      | in-IsFull w ↦ search rules
+      | in-Step w ↦ search rules
+    ]

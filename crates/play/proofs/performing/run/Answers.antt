@@ -1,45 +1,59 @@
-use mathlib.Core.Path.{◌≡◌, refl, ap, ◌∙◌}
-use mathlib.Core.List.{◌++◌}
-use native.Mathlib.Omega.{arith}
-use lib.ListN.{take, drop}
+use Rattle.std.proofs.Common.{◌≡◌, ℕ, ◌*◌, ◌^◌, ◌<◌, ◌++◌, length, take, drop, refl, ap, ◌∙◌, Fits, w64, append-nil, arith, rules}
+use Rattle.std.proofs.lemmas.List.{length-take, drop_all}
 use Rattle.model.specs.Layouts.{capacity}
-use Rattle.model.proofs.Beyond.{same_beyond}
 use Rattle.history.specs.Calls.{cells_answers, cells_after_all}
 use Rattle.history.proofs.Running.{call_size, beyond_more, run_more, run_reached}
 use Rattle.play.proofs.performing.run.Goals as goal
 
-pub loop-i-init : goal.loop-i-init
-loop-i-init g c = (refl, refl, refl, same_beyond (g.T.SlotMap.layout c.args.table.now), refl)
+-- a place in a slice, by the bytes before it
+place_fits : (i n s : ℕ) → i < n → n * s < 2 ^ 63 → Fits w64 (i * s)
+place_fits i n s l f = grind arith
+
+pub offset_bounds-answer-items-i : goal.offset_bounds-answer-items-i
+offset_bounds-answer-items-i g c =
+    let within : c.loop-i.i < length c.args.answers.now = omega (arith, length-take c.min-count.result c.args.answers.now) in
+    search (rules, place_fits)
 
 pub loop-i-preserved : goal.loop-i-preserved
 loop-i-preserved g c =
     let o = g.T.SlotMap.layout c.args.table.now in
     let l = g.T.SlotMap.layout c.loop-i.table in
+    let n = g.T.SlotMap.layout c.perform.new.table in
+    let xs = take c.min-count.result c.args.answers.now in
+    let call = c.index-calls-i in
     let inv = c.loop-i.invariant in
-    let made = c.perform-answer.ensures in
+    let made = c.perform.ensures in
     let more =
-    run_more o l (g.T.SlotMap.layout c.perform-answer.new.table) c.args.calls.now c.args.answers.now c.loop-i.answers _ c.loop-i.i
-    c.index-calls-i.result c.perform-answer.result (omega arith) (omega arith) c.index-calls-i.is made.value made.after c.put.ensures
-    inv.0 inv.1 in (
-      more.0,
-      more.1,
-      ap capacity made.after ∙ call_size l c.index-calls-i.result ∙ inv.2,
-      beyond_more o l (g.T.SlotMap.layout c.perform-answer.new.table) inv.2 inv.3 made.beyond,
-      made.beside ∙ inv.4,
-    )
+    run_more o l n c.args.calls.now xs c.loop-i.answer-items _ c.loop-i.i call.result c.perform.result
+    (omega (arith, length-take c.min-count.result c.args.answers.now)) (omega arith) call.is made.value made.after refl inv.after inv.answered in
+    record {
+      after = more.0;
+      answered = more.1;
+      sized = ap capacity made.after ∙ call_size l call.result ∙ inv.sized;
+      beyond = beyond_more o l n inv.sized inv.beyond made.beyond;
+      beside = made.beside ∙ inv.beside;
+    }
 
 pub returns : goal.returns
 returns g c =
     let o = g.T.SlotMap.layout c.args.table.now in
+    let calls = c.args.calls.now in
+    let answers = c.args.answers.now in
+    let n = c.min-count.result in
     let inv = c.loop-i.invariant in
-    let all : c.loop-i.i ≡ c.min-count.result = omega arith in
-    let value = inv.1 ∙ ap (λ n. cells_answers o (take n c.args.calls.now) ++ drop n c.args.answers.now) all in
-    let after = inv.0 ∙ ap (λ n. cells_after_all o (take n c.args.calls.now)) all in
+    let all : c.loop-i.i ≡ n = omega (arith, length-take n answers) in
+    let after = inv.after ∙ ap (λ i. cells_after_all o (take i calls)) all in
+    let value =
+    ap (λ xs. xs ++ drop n answers)
+    (inv.answered
+    ∙ ap (λ xs. cells_answers o (take c.loop-i.i calls) ++ xs) (drop_all c.loop-i.i (take n answers) c.loop-i-test.false)
+    ∙ append-nil (cells_answers o (take c.loop-i.i calls))
+    ∙ ap (λ i. cells_answers o (take i calls)) all) in
     record {
       count = c.min-count.ensures;
       value = value;
       after = after;
-      beyond = inv.3;
-      beside = inv.4;
-      reached = λ C h r. run_reached o (g.T.SlotMap.layout c.loop-i.table) c.args.calls.now c.args.answers.now c.loop-i.answers c.min-count.result C h (omega (arith, c.min-count.ensures)) after value r;
+      beyond = inv.beyond;
+      beside = inv.beside;
+      reached = λ C h r. run_reached o (g.T.SlotMap.layout c.loop-i.table) calls answers _ n C h (omega (arith, c.min-count.ensures)) after value r;
     }

@@ -1,14 +1,15 @@
-use mathlib.Core.Path.{◌≡◌}
-use mathlib.Core.List.{◌++◌}
-use lib.ListN.{take, drop}
+use Rattle.std.proofs.Common.{◌≡◌, ◌++◌, take, drop}
 use Rattle.model.specs.Layouts.{capacity, SameBeyond}
 use Rattle.history.specs.Calls.{cells_answers, cells_after_all}
 use Rattle.play.proofs.performing.run.Given as goal
 
 abbrev pub invariant-loop-i : goal.invariant-loop-i
 invariant-loop-i g l =
-    (g.T.SlotMap.layout l.table ≡ cells_after_all (g.T.SlotMap.layout l.initial.table) (take l.i l.calls))
-    × (l.answers ≡ cells_answers (g.T.SlotMap.layout l.initial.table) (take l.i l.calls) ++ drop l.i l.initial.answers)
-    × (capacity (g.T.SlotMap.layout l.table) ≡ capacity (g.T.SlotMap.layout l.initial.table))
-    × SameBeyond (g.T.SlotMap.layout l.initial.table) (g.T.SlotMap.layout l.table)
-    × (g.T.SlotMap.outside l.table ≡ g.T.SlotMap.outside l.initial.table)
+    let o = g.T.SlotMap.layout l.initial.table in
+    record {
+      after : g.T.SlotMap.layout l.table ≡ cells_after_all o (take l.i l.calls);
+      answered : l.answer-items ≡ cells_answers o (take l.i l.calls) ++ drop l.i l.initial.answer-items;
+      sized : capacity (g.T.SlotMap.layout l.table) ≡ capacity o;
+      beyond : SameBeyond o (g.T.SlotMap.layout l.table);
+      beside : g.T.SlotMap.outside l.table ≡ g.T.SlotMap.outside l.initial.table;
+    }
