@@ -10,28 +10,25 @@ ghost use Rattle.recents.specs.Recent.{numbers, number_line, complaint, complain
 
 use containers::MetaQueue;
 use rows::Row;
-use std::alloc::{AllocError, Global};
+use std::alloc::AllocError;
 use text::{LineReader, number};
 
 // Says that the line at `place` is no number.
-fn complain(heap: Global, err: &mut String, place: u64) -> Result<(), AllocError>
+fn complain(err: &mut String, place: u64) -> Result<(), AllocError>
     ensures { OnOk result (string_bytes err.new ≡ string_bytes err.old ++ complaint place) }
 {
-    let said = format!(in heap; "line {place}: not a number\n")?;
-    err.push_str(said.as_str())
+    writeln!(err, "line {place}: not a number")
 }
 
 // Prints `n` on a line of its own.
-fn print_number(heap: Global, out: &mut String, n: u32) -> Result<(), AllocError>
+fn print_number(out: &mut String, n: u32) -> Result<(), AllocError>
     ensures { OnOk result (string_bytes out.new ≡ string_bytes out.old ++ number_line n) }
 {
-    let line = format!(in heap; "{n}\n")?;
-    out.push_str(line.as_str())
+    writeln!(out, "{n}")
 }
 
 // Queues the number that `line` writes, or complains of the line.
 fn note<R: Row<Item = u32>>(
-    heap: Global,
     queue: &mut MetaQueue<R>,
     err: &mut String,
     line: &[u8],
@@ -44,17 +41,14 @@ fn note<R: Row<Item = u32>>(
     match number(line) {
         Some(n) => {
             let _ = queue.push_with_overflow(n);
+            Ok(())
         }
-        None => {
-            complain(heap, err, place)?;
-        }
+        None => complain(err, place),
     }
-    Ok(())
 }
 
 // Queues the numbers that the lines of `text` write, and complains of the other lines.
 pub(crate) fn note_lines<R: Row<Item = u32>>(
-    heap: Global,
     queue: &mut MetaQueue<R>,
     err: &mut String,
     text: &[u8],
@@ -66,32 +60,20 @@ pub(crate) fn note_lines<R: Row<Item = u32>>(
     let mut place: u64 = 0;
     while let Some(line) = reader.next_line() {
         place += 1;
-        note(heap, queue, err, line, place)?;
+        note(queue, err, line, place)?;
     }
     Ok(())
 }
 
-// Takes the oldest number out of the queue.
-fn take_oldest<R: Row<Item = u32>>(queue: &mut MetaQueue<R>) -> Option<u32>
-    ensures value { result ≡ slice_get (contents (state R.Row.cells queue.old)) 0 }
-    ensures held { contents (state R.Row.cells queue.new) ≡ drop 1 (contents (state R.Row.cells queue.old)) }
-{
-    match queue.pop() {
-        Ok(oldest) => oldest,
-        Err(_) => unreachable(),
-    }
-}
-
 // Takes the numbers out of the queue and prints them, oldest first.
 pub(crate) fn print_numbers<R: Row<Item = u32>>(
-    heap: Global,
     queue: &mut MetaQueue<R>,
     out: &mut String,
 ) -> Result<(), AllocError>
     ensures { OnOk result (string_bytes out.new ≡ string_bytes out.old ++ flat_map number_line (contents (state R.Row.cells queue.old))) }
 {
-    while let Some(n) = take_oldest(queue) {
-        print_number(heap, out, n)?;
+    while let Ok(Some(n)) = queue.pop() {
+        print_number(out, n)?;
     }
     Ok(())
 }

@@ -20,8 +20,8 @@ pub fn last_numbers(heap: Global, text: &[u8]) -> Result<Printed, AllocError>
 {
     let mut queue = MetaQueue::new(InlineRow::filled(0));
     let mut err = String::new(heap);
-    note_lines(heap, &mut queue, &mut err, text)?;
+    note_lines(&mut queue, &mut err, text)?;
     let mut out = String::new(heap);
-    print_numbers(heap, &mut queue, &mut out)?;
+    print_numbers(&mut queue, &mut out)?;
     Ok(Printed { out, err })
 }

@@ -9,23 +9,26 @@ use Rattle.recents.proofs.notes.print_numbers.Goals as goal
 pub loop-n-smaller : goal.loop-n-smaller
 loop-n-smaller g c =
     let old = contents (queue g.R.Row.cells c.loop-n.queue) in
-    let some = some_first old c.in-Some.n (sym c.in-Some.ensures.value) in
-    omega (arith, ap length c.in-Some.ensures.held ∙ length-drop 1 old)
+    let popped = c.in-Ok-Some.ensures.means in
+    let some = some_first old c.in-Ok-Some.n (cc popped.value) in
+    omega (arith, ap length popped.holds ∙ length-drop 1 old)
 
 pub loop-n-preserved : goal.loop-n-preserved
 loop-n-preserved g c =
     let old = contents (queue g.R.Row.cells c.loop-n.queue) in
-    let new = contents (queue g.R.Row.cells c.take_oldest.new.queue) in
-    let n = c.in-Some.n in
+    let new = contents (queue g.R.Row.cells c.pop.new.self) in
+    let popped = c.in-Ok-Some.ensures.means in
+    let n = c.in-Ok-Some.n in
     let out = string_bytes c.loop-n.out in
     ap (λ xs. xs ++ flat_map number_line new) c.in_ok-print_number.ensures
     ∙ append_assoc out (number_line n) (flat_map number_line new)
-    ∙ ap (λ xs. out ++ (number_line n ++ flat_map number_line xs)) c.in-Some.ensures.held
-    ∙ ap (λ xs. out ++ xs) (sym (first_out number_line old n (sym c.in-Some.ensures.value)))
+    ∙ ap (λ xs. out ++ (number_line n ++ flat_map number_line xs)) popped.holds
+    ∙ ap (λ xs. out ++ xs) (sym (first_out number_line old n (cc popped.value)))
     ∙ c.loop-n.invariant
 
-pub returns : goal.returns
-returns g c =
+pub returns-in_default : goal.returns-in_default
+returns-in_default g c =
     let old = contents (queue g.R.Row.cells c.loop-n.queue) in
+    let popped = c.in_default.ensures.means in
     let out = string_bytes c.loop-n.out in
-    sym (ap (λ xs. out ++ flat_map number_line xs) (none_left old (sym c.in_default.ensures.value)) ∙ append-nil out) ∙ c.loop-n.invariant
+    sym (ap (λ xs. out ++ flat_map number_line xs) (none_left old (cc popped.value)) ∙ append-nil out) ∙ c.loop-n.invariant
