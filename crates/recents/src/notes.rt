@@ -1,31 +1,17 @@
 // A queue of numbers, filled from lines and printed.
-ghost use Rattle.std.specs.Prelude.{◌≡◌, ◌++◌, drop, string_bytes, OnOk};
-ghost use Rattle.std.specs.List.{slice_get, flat_map};
+ghost use Rattle.std.specs.Prelude.{◌≡◌, ◌++◌, string_bytes, OnOk};
+ghost use Rattle.std.specs.List.{flat_map};
 ghost use Rattle.std.specs.Option.{option_to_list};
 ghost use Rattle.containers.specs.Bounded.{latest};
 ghost use Rattle.containers.specs.Queues.{queue as state, contents};
 ghost use Rattle.text.specs.Lines.{lines};
 ghost use Rattle.text.specs.Numbers.{number_of};
-ghost use Rattle.recents.specs.Recent.{numbers, number_line, complaint, complained, complaints};
+ghost use Rattle.recents.specs.Recent.{numbers, number_line, complained, complaints};
 
 use containers::MetaQueue;
 use rows::Row;
 use std::alloc::AllocError;
 use text::{LineReader, number};
-
-// Says that the line at `place` is no number.
-fn complain(err: &mut String, place: u64) -> Result<(), AllocError>
-    ensures { OnOk result (string_bytes err.new ≡ string_bytes err.old ++ complaint place) }
-{
-    writeln!(err, "line {place}: not a number")
-}
-
-// Prints `n` on a line of its own.
-fn print_number(out: &mut String, n: u32) -> Result<(), AllocError>
-    ensures { OnOk result (string_bytes out.new ≡ string_bytes out.old ++ number_line n) }
-{
-    writeln!(out, "{n}")
-}
 
 // Queues the number that `line` writes, or complains of the line.
 fn note<R: Row<Item = u32>>(
@@ -43,7 +29,7 @@ fn note<R: Row<Item = u32>>(
             let _ = queue.push_with_overflow(n);
             Ok(())
         }
-        None => complain(err, place),
+        None => writeln!(err, "line {place}: not a number"),
     }
 }
 
@@ -73,7 +59,7 @@ pub(crate) fn print_numbers<R: Row<Item = u32>>(
     ensures { OnOk result (string_bytes out.new ≡ string_bytes out.old ++ flat_map number_line (contents (state R.Row.cells queue.old))) }
 {
     while let Ok(Some(n)) = queue.pop() {
-        print_number(out, n)?;
+        writeln!(out, "{n}")?;
     }
     Ok(())
 }

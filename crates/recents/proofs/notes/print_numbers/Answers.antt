@@ -20,7 +20,7 @@ loop-n-preserved g c =
     let popped = c.in-Ok-Some.ensures.means in
     let n = c.in-Ok-Some.n in
     let out = string_bytes c.loop-n.out in
-    ap (λ xs. xs ++ flat_map number_line new) c.in_ok-print_number.ensures
+    ap (λ xs. xs ++ flat_map number_line new) c.in_ok-writeln.ensures.bytes
     ∙ append_assoc out (number_line n) (flat_map number_line new)
     ∙ ap (λ xs. out ++ (number_line n ++ flat_map number_line xs)) popped.holds
     ∙ ap (λ xs. out ++ xs) (sym (first_out number_line old n (cc popped.value)))
