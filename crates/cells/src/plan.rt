@@ -81,10 +81,10 @@ impl Plan {
         mut values: D,
         mut slots: Q,
     ) -> MetaSlotMap<X, L, D, Q>
-        ensures cells { laid X.Row.cells L.Row.cells D.Row.cells Q.Row.cells result ≡ fresh_layout (size_over self.capacity (X.Row.cells index) (L.Row.cells links) (D.Row.cells values) (Q.Row.cells slots)) (X.Row.cells index) (L.Row.cells links) (D.Row.cells values) (Q.Row.cells slots) }
-        ensures means { Means (laid X.Row.cells L.Row.cells D.Row.cells Q.Row.cells result) (fresh (size_over self.capacity (X.Row.cells index) (L.Row.cells links) (D.Row.cells values) (Q.Row.cells slots))) }
-        ensures reached { Reached (size_over self.capacity (X.Row.cells index) (L.Row.cells links) (D.Row.cells values) (Q.Row.cells slots)) [] (laid X.Row.cells L.Row.cells D.Row.cells Q.Row.cells result) }
-        ensures beyond { SameBeyond (bare (size_over self.capacity (X.Row.cells index) (L.Row.cells links) (D.Row.cells values) (Q.Row.cells slots)) (X.Row.cells index) (L.Row.cells links) (D.Row.cells values) (Q.Row.cells slots)) (laid X.Row.cells L.Row.cells D.Row.cells Q.Row.cells result) }
+        ensures cells { laid X.Row.cells L.Row.cells D.Row.cells result ≡ fresh_layout (size_over self.capacity (X.Row.cells index) (L.Row.cells links) (D.Row.cells values) (Q.Row.cells slots)) (X.Row.cells index) (L.Row.cells links) (D.Row.cells values) (Q.Row.cells slots) }
+        ensures means { Means (laid X.Row.cells L.Row.cells D.Row.cells result) (fresh (size_over self.capacity (X.Row.cells index) (L.Row.cells links) (D.Row.cells values) (Q.Row.cells slots))) }
+        ensures reached { Reached (size_over self.capacity (X.Row.cells index) (L.Row.cells links) (D.Row.cells values) (Q.Row.cells slots)) [] (laid X.Row.cells L.Row.cells D.Row.cells result) }
+        ensures beyond { SameBeyond (bare (size_over self.capacity (X.Row.cells index) (L.Row.cells links) (D.Row.cells values) (Q.Row.cells slots)) (X.Row.cells index) (L.Row.cells links) (D.Row.cells values) (Q.Row.cells slots)) (laid X.Row.cells L.Row.cells D.Row.cells result) }
         ensures unwritten { D.Row.stored result.«data» ≡ D.Row.stored values }
         ensures outside { (X.Row.outside result.idx_to_data ≡ X.Row.outside index) × ((L.Row.outside result.idx_to_data_free_list ≡ L.Row.outside links) × ((D.Row.outside result.«data» ≡ D.Row.outside values) × (Q.Row.outside result.data_next_free_index.row ≡ Q.Row.outside slots))) }
     {

@@ -39,9 +39,9 @@ fn answer_number(r: Result<u32, Refusal>) -> QueueAnswer
 
 // Makes one call, and answers it as a list that may have so many elements does.
 pub fn perform<R: Row<Item = u32>>(queue: &mut MetaQueue<R>, call: QueueCall) -> QueueAnswer
-    ensures value { result ≡ cells_answer (state R.Row.cells queue.old) call }
-    ensures after { (state R.Row.cells queue.new) ≡ cells_after (state R.Row.cells queue.old) call }
-    ensures means { Means contents Backed (state R.Row.cells queue.old) result (state R.Row.cells queue.new) (λ xs. answer_to (state R.Row.cells queue.old).capacity xs call) (λ xs. held_after (state R.Row.cells queue.old).capacity xs call) }
+    ensures value { result ≡ cells_answer (state queue.old) call }
+    ensures after { (state queue.new) ≡ cells_after (state queue.old) call }
+    ensures means { Means contents Backed (state queue.old) result (state queue.new) (λ xs. answer_to (state queue.old).capacity xs call) (λ xs. held_after (state queue.old).capacity xs call) }
     ensures beside { R.Row.outside queue.new.row ≡ R.Row.outside queue.old.row }
 {
     match call {

@@ -30,8 +30,8 @@ const ANSWERS: [QueueAnswer; 7] = [
 
 // Makes the calls of the worked run, and holds each answer to the stated one.
 fn run<R: Row<Item = u32>>(rt: &impl Abort, queue: &mut MetaQueue<R>) {
-    for i in 0..7 {
-        assert_eq!(rt; perform(queue, CALLS[i]), ANSWERS[i]);
+    for (call, answer) in CALLS.into_iter().zip(ANSWERS) {
+        assert_eq!(rt; perform(queue, call), answer);
     }
 }
 

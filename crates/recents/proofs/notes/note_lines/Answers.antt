@@ -11,7 +11,7 @@ use Rattle.recents.proofs.notes.note_lines.Goals as goal
 
 pub loop-line-init : goal.loop-line-init
 loop-line-init g c =
-    let q = queue g.R.Row.cells c.args.queue.now in (
+    let q = queue c.args.queue.now in (
       refl,
       omega (arith, ap length c.new-reader.ensures),
       ap (λ text. latest q.capacity (contents q ++ numbers (lines text))) c.new-reader.ensures,
@@ -26,8 +26,8 @@ loop-line-smaller g c = omega (arith, ltb-true 0 (length c.loop-line.reader.rest
 
 pub loop-line-preserved : goal.loop-line-preserved
 loop-line-preserved g c =
-    let q = queue g.R.Row.cells c.loop-line.queue in
-    let after = queue g.R.Row.cells c.note.new.queue in
+    let q = queue c.loop-line.queue in
+    let after = queue c.note.new.queue in
     let line = c.in-Some.line.now in
     let rest = lines c.next_line.new.self.rest.now in
     let read = c.in-Some.ensures.lines in
@@ -46,7 +46,7 @@ loop-line-preserved g c =
 
 pub returns : goal.returns
 returns g c =
-    let q = queue g.R.Row.cells c.loop-line.queue in
+    let q = queue c.loop-line.queue in
     let rest = no_lines c.loop-line.reader.rest.now c.in_default.ensures.test in
     let sized = length_contents q c.loop-line.queue.position.within c.loop-line.queue.backed in
     record {

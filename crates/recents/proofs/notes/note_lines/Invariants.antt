@@ -8,8 +8,8 @@ use Rattle.recents.proofs.notes.note_lines.Given as goal
 -- what is left of the text leads to what the whole text leads to
 abbrev pub invariant-loop-line : goal.invariant-loop-line
 invariant-loop-line g l =
-    let q = queue g.R.Row.cells l.queue in
-    let q₀ = queue g.R.Row.cells l.initial.queue in
+    let q = queue l.queue in
+    let q₀ = queue l.initial.queue in
     (q.capacity ≡ q₀.capacity)
     × (l.place + length l.reader.rest.now ≤ length l.text)
     × (latest q.capacity (contents q ++ numbers (lines l.reader.rest.now)) ≡ latest q₀.capacity (contents q₀ ++ numbers (lines l.text)))

@@ -8,15 +8,15 @@ use Rattle.recents.proofs.notes.print_numbers.Goals as goal
 
 pub loop-n-smaller : goal.loop-n-smaller
 loop-n-smaller g c =
-    let old = contents (queue g.R.Row.cells c.loop-n.queue) in
+    let old = contents (queue c.loop-n.queue) in
     let popped = c.in-Ok-Some.ensures.means in
     let some = some_first old c.in-Ok-Some.n (cc popped.value) in
     omega (arith, ap length popped.holds ∙ length-drop 1 old)
 
 pub loop-n-preserved : goal.loop-n-preserved
 loop-n-preserved g c =
-    let old = contents (queue g.R.Row.cells c.loop-n.queue) in
-    let new = contents (queue g.R.Row.cells c.pop.new.self) in
+    let old = contents (queue c.loop-n.queue) in
+    let new = contents (queue c.pop.new.self) in
     let popped = c.in-Ok-Some.ensures.means in
     let n = c.in-Ok-Some.n in
     let out = string_bytes c.loop-n.out in
@@ -28,7 +28,7 @@ loop-n-preserved g c =
 
 pub returns-in_default : goal.returns-in_default
 returns-in_default g c =
-    let old = contents (queue g.R.Row.cells c.loop-n.queue) in
+    let old = contents (queue c.loop-n.queue) in
     let popped = c.in_default.ensures.means in
     let out = string_bytes c.loop-n.out in
     sym (ap (λ xs. out ++ flat_map number_line xs) (none_left old (cc popped.value)) ∙ append-nil out) ∙ c.loop-n.invariant
