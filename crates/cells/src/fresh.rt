@@ -19,8 +19,8 @@ pub(crate) fn clear_index<X: Row<Item = u32>>(index: &mut X, capacity: u32)
 
 // A queue with a place for each of `capacity` slots, as far as there are cells; all its slots wait, in order.
 pub(crate) fn queue_all<Q: Row<Item = u32>>(slots: Q, capacity: u32) -> MetaQueue<Q>
-    ensures capacity { (state Q.Row.cells result).capacity ≡ min (min capacity 65535) (length (Q.Row.cells slots)) }
-    ensures after { state Q.Row.cells result ≡ slots_to (state Q.Row.cells result).capacity (state Q.Row.cells result).capacity (Q.Row.cells slots) }
+    ensures capacity { (state result).capacity ≡ min (min capacity 65535) (length (Q.Row.cells slots)) }
+    ensures after { state result ≡ slots_to (state result).capacity (state result).capacity (Q.Row.cells slots) }
     ensures beside { Q.Row.outside result.row ≡ Q.Row.outside slots }
 {
     let mut queue = MetaQueue::with_capacity(slots, capacity);

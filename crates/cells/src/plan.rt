@@ -74,10 +74,10 @@ impl Plan {
         self,
         mut rows: Rows<X, L, D, Q>,
     ) -> MetaSlotMap<X, L, D, Q>
-        ensures cells { laid X.Row.cells L.Row.cells D.Row.cells Q.Row.cells result ≡ fresh_layout (size_over self.capacity (X.Row.cells rows.index) (L.Row.cells rows.links) (D.Row.cells rows.values) (Q.Row.cells rows.slots)) (X.Row.cells rows.index) (L.Row.cells rows.links) (D.Row.cells rows.values) (Q.Row.cells rows.slots) }
-        ensures means { Means (laid X.Row.cells L.Row.cells D.Row.cells Q.Row.cells result) (fresh (size_over self.capacity (X.Row.cells rows.index) (L.Row.cells rows.links) (D.Row.cells rows.values) (Q.Row.cells rows.slots))) }
-        ensures reached { Reached (size_over self.capacity (X.Row.cells rows.index) (L.Row.cells rows.links) (D.Row.cells rows.values) (Q.Row.cells rows.slots)) [] (laid X.Row.cells L.Row.cells D.Row.cells Q.Row.cells result) }
-        ensures beyond { SameBeyond (bare (size_over self.capacity (X.Row.cells rows.index) (L.Row.cells rows.links) (D.Row.cells rows.values) (Q.Row.cells rows.slots)) (X.Row.cells rows.index) (L.Row.cells rows.links) (D.Row.cells rows.values) (Q.Row.cells rows.slots)) (laid X.Row.cells L.Row.cells D.Row.cells Q.Row.cells result) }
+        ensures cells { laid X.Row.cells L.Row.cells D.Row.cells result ≡ fresh_layout (size_over self.capacity (X.Row.cells rows.index) (L.Row.cells rows.links) (D.Row.cells rows.values) (Q.Row.cells rows.slots)) (X.Row.cells rows.index) (L.Row.cells rows.links) (D.Row.cells rows.values) (Q.Row.cells rows.slots) }
+        ensures means { Means (laid X.Row.cells L.Row.cells D.Row.cells result) (fresh (size_over self.capacity (X.Row.cells rows.index) (L.Row.cells rows.links) (D.Row.cells rows.values) (Q.Row.cells rows.slots))) }
+        ensures reached { Reached (size_over self.capacity (X.Row.cells rows.index) (L.Row.cells rows.links) (D.Row.cells rows.values) (Q.Row.cells rows.slots)) [] (laid X.Row.cells L.Row.cells D.Row.cells result) }
+        ensures beyond { SameBeyond (bare (size_over self.capacity (X.Row.cells rows.index) (L.Row.cells rows.links) (D.Row.cells rows.values) (Q.Row.cells rows.slots)) (X.Row.cells rows.index) (L.Row.cells rows.links) (D.Row.cells rows.values) (Q.Row.cells rows.slots)) (laid X.Row.cells L.Row.cells D.Row.cells result) }
         ensures unwritten { D.Row.stored result.«data» ≡ D.Row.stored rows.values }
         ensures outside { (X.Row.outside result.idx_to_data ≡ X.Row.outside rows.index) × ((L.Row.outside result.idx_to_data_free_list ≡ L.Row.outside rows.links) × ((D.Row.outside result.«data» ≡ D.Row.outside rows.values) × (Q.Row.outside result.data_next_free_index.row ≡ Q.Row.outside rows.slots))) }
     {

@@ -6,6 +6,7 @@ use Rattle.std.specs.Option.{option_to_list}
 use Rattle.refusal.specs.declared.Refusal.{Refusal}
 use Rattle.refusal.specs.declared.Refusal.TheVariants.{PlacePastLength, NoSpace, NoCell}
 use Rattle.rows.specs.Cells.{read_at, write_at}
+use Rattle.rows.specs.declared.row.Row.{Ghosts}
 use Rattle.containers.specs.declared.queue.MetaQueue.{MetaQueue}
 
 -- the registers of a queue, and all cells of its row
@@ -15,14 +16,14 @@ pub record QueueState (T : Type 0) : Type 0 where
   pub len : ℕ
   pub cells : List T
 
--- the state of a queue over a row whose cells are known
-abbrev pub queue : {R T : Type 0} {row : _} → (R → List T) → MetaQueue R T row → QueueState T
-queue cells q =
+-- the state of a queue
+abbrev pub queue : {R T : Type 0} {row : Ghosts R T} → MetaQueue R T row → QueueState T
+queue {row = row} q =
     record {
       capacity = q.position.capacity;
       start = q.position.start;
       len = q.position.len;
-      cells = cells q.row;
+      cells = row.cells q.row;
     }
 
 -- every place of the ring is a cell of the row

@@ -23,7 +23,7 @@ impl<R: Row> MetaVec<R> {
 
     // An empty vector over all cells of `row`, or over the first 65,535 of them.
     pub fn new(mut row: R) -> Self
-        ensures state { vector R.Row.cells result ≡ record { capacity = min 65535 (length (R.Row.cells row)); len = 0; cells = R.Row.cells row } }
+        ensures state { vector result ≡ record { capacity = min 65535 (length (R.Row.cells row)); len = 0; cells = R.Row.cells row } }
         ensures beside { R.Row.outside result.row ≡ R.Row.outside row }
     {
         let capacity = fitting(u32::MAX, row.count());
@@ -41,40 +41,40 @@ impl<R: Row> MetaVec<R> {
 
     // How many elements can be held.
     pub fn capacity(&self) -> u32
-        ensures { result ≡ (vector R.Row.cells self.now).capacity }
+        ensures { result ≡ (vector self.now).capacity }
     {
         self.extent.capacity
     }
 
     // How many elements are held.
     pub fn len(&self) -> u32
-        ensures value { result ≡ (vector R.Row.cells self.now).len }
-        ensures means { result ≡ length (contents (vector R.Row.cells self.now)) }
+        ensures value { result ≡ (vector self.now).len }
+        ensures means { result ≡ length (contents (vector self.now)) }
     {
         self.extent.len
     }
 
     // True where no more can be held.
     pub fn is_full(&self) -> bool
-        ensures value { result ≡ ((vector R.Row.cells self.now).len == (vector R.Row.cells self.now).capacity) }
-        ensures means { result ≡ (length (contents (vector R.Row.cells self.now)) == (vector R.Row.cells self.now).capacity) }
+        ensures value { result ≡ ((vector self.now).len == (vector self.now).capacity) }
+        ensures means { result ≡ (length (contents (vector self.now)) == (vector self.now).capacity) }
     {
         self.len() == self.capacity()
     }
 
     // True where nothing is held.
     pub fn is_empty(&self) -> bool
-        ensures value { result ≡ ((vector R.Row.cells self.now).len == 0) }
-        ensures means { result ≡ (length (contents (vector R.Row.cells self.now)) == 0) }
+        ensures value { result ≡ ((vector self.now).len == 0) }
+        ensures means { result ≡ (length (contents (vector self.now)) == 0) }
     {
         self.len() == 0
     }
 
     // Adds `value` behind the last element; refused where the vector is full.
     pub fn push(&mut self, value: R::Item) -> Result<(), Refusal>
-        ensures value { result ≡ push_answer (vector R.Row.cells self.old) }
-        ensures after { (vector R.Row.cells self.new) ≡ (if is_ok result then with (vector R.Row.cells self.old) ((vector R.Row.cells self.old).len + 1) (slice_set (vector R.Row.cells self.old).cells (vector R.Row.cells self.old).len value) else vector R.Row.cells self.old) }
-        ensures means { Means contents Backed (vector R.Row.cells self.old) result (vector R.Row.cells self.new) (append_answer (vector R.Row.cells self.old).capacity) (appended (vector R.Row.cells self.old).capacity value) }
+        ensures value { result ≡ push_answer (vector self.old) }
+        ensures after { (vector self.new) ≡ (if is_ok result then with (vector self.old) ((vector self.old).len + 1) (slice_set (vector self.old).cells (vector self.old).len value) else vector self.old) }
+        ensures means { Means contents Backed (vector self.old) result (vector self.new) (append_answer (vector self.old).capacity) (appended (vector self.old).capacity value) }
         ensures kept { is_ok result ≡ false → R.Row.stored self.new.row ≡ R.Row.stored self.old.row }
         ensures beside { R.Row.outside self.new.row ≡ R.Row.outside self.old.row }
     {
@@ -89,8 +89,8 @@ impl<R: Row> MetaVec<R> {
 
     // Lets all elements go.
     pub fn clear(&mut self)
-        ensures after { (vector R.Row.cells self.new) ≡ with (vector R.Row.cells self.old) 0 (vector R.Row.cells self.old).cells }
-        ensures holds { contents (vector R.Row.cells self.new) ≡ [] }
+        ensures after { (vector self.new) ≡ with (vector self.old) 0 (vector self.old).cells }
+        ensures holds { contents (vector self.new) ≡ [] }
         ensures beside { R.Row.outside self.new.row ≡ R.Row.outside self.old.row }
     {
         self.extent = self.extent.resized(0);
@@ -98,9 +98,9 @@ impl<R: Row> MetaVec<R> {
 
     // Takes the last element out.
     pub fn pop(&mut self) -> Option<R::Item>
-        ensures value { Ok result ≡ pop_answer (vector R.Row.cells self.old) }
-        ensures after { (vector R.Row.cells self.new) ≡ with (vector R.Row.cells self.old) ((vector R.Row.cells self.old).len - 1) (vector R.Row.cells self.old).cells }
-        ensures means { Means contents Backed (vector R.Row.cells self.old) result (vector R.Row.cells self.new) (λ xs. slice_get xs (length xs - 1)) (λ xs. take (length xs - 1) xs) }
+        ensures value { Ok result ≡ pop_answer (vector self.old) }
+        ensures after { (vector self.new) ≡ with (vector self.old) ((vector self.old).len - 1) (vector self.old).cells }
+        ensures means { Means contents Backed (vector self.old) result (vector self.new) (λ xs. slice_get xs (length xs - 1)) (λ xs. take (length xs - 1) xs) }
         ensures untouched { R.Row.stored self.new.row ≡ R.Row.stored self.old.row }
         ensures beside { R.Row.outside self.new.row ≡ R.Row.outside self.old.row }
     {
@@ -112,9 +112,9 @@ impl<R: Row> MetaVec<R> {
 
     // The element at `place`; refused at or past the length.
     pub fn read(&mut self, place: usize) -> Result<R::Item, Refusal>
-        ensures value { result ≡ read_answer (vector R.Row.cells self.old) place }
-        ensures same { (vector R.Row.cells self.new) ≡ (vector R.Row.cells self.old) }
-        ensures means { Means contents Backed (vector R.Row.cells self.old) result (vector R.Row.cells self.new) (λ xs. ok_or (slice_get xs place) PlacePastLength) (λ xs. xs) }
+        ensures value { result ≡ read_answer (vector self.old) place }
+        ensures same { (vector self.new) ≡ (vector self.old) }
+        ensures means { Means contents Backed (vector self.old) result (vector self.new) (λ xs. ok_or (slice_get xs place) PlacePastLength) (λ xs. xs) }
         ensures untouched { R.Row.stored self.new.row ≡ R.Row.stored self.old.row }
         ensures beside { R.Row.outside self.new.row ≡ R.Row.outside self.old.row }
     {
@@ -127,9 +127,9 @@ impl<R: Row> MetaVec<R> {
 
     // Stores `value` in the element at `place`; refused at or past the length.
     pub fn write(&mut self, place: usize, value: R::Item) -> Result<(), Refusal>
-        ensures value { result ≡ write_answer (vector R.Row.cells self.old) place }
-        ensures after { (vector R.Row.cells self.new) ≡ with (vector R.Row.cells self.old) (vector R.Row.cells self.old).len (if is_ok result then slice_set (vector R.Row.cells self.old).cells place value else (vector R.Row.cells self.old).cells) }
-        ensures means { Means contents Backed (vector R.Row.cells self.old) result (vector R.Row.cells self.new) (λ xs. (if nat_lt place (length xs) then Ok tt else Err PlacePastLength)) (λ xs. slice_set xs place value) }
+        ensures value { result ≡ write_answer (vector self.old) place }
+        ensures after { (vector self.new) ≡ with (vector self.old) (vector self.old).len (if is_ok result then slice_set (vector self.old).cells place value else (vector self.old).cells) }
+        ensures means { Means contents Backed (vector self.old) result (vector self.new) (λ xs. (if nat_lt place (length xs) then Ok tt else Err PlacePastLength)) (λ xs. slice_set xs place value) }
         ensures kept { is_ok result ≡ false → R.Row.stored self.new.row ≡ R.Row.stored self.old.row }
         ensures beside { R.Row.outside self.new.row ≡ R.Row.outside self.old.row }
     {

@@ -11,7 +11,7 @@ use crate::performing::run;
 use history::{Answer, Call};
 use refusal::Refusal;
 use rows::{FreeListEntry, Row};
-use slotmap::{MetaSlotMap, Plan, SlotMap};
+use slotmap::{MetaSlotMap, Plan, Rows, SlotMap};
 
 // How many calls were made, and the table after them.
 #[derive(Drop)]
@@ -24,21 +24,18 @@ pub struct Played<X: Row<Item = u32>, L: Row<Item = FreeListEntry>, D: Row, Q: R
 // places, whose answers go there. It cannot fail.
 pub fn play<X: Row<Item = u32>, L: Row<Item = FreeListEntry>, D: Row, Q: Row<Item = u32>>(
     plan: Plan,
-    index: X,
-    links: L,
-    values: D,
-    slots: Q,
+    rows: Rows<X, L, D, Q>,
     calls: &[Call<D::Item>],
     answers: &mut [Result<Answer<D::Item>, Refusal>],
 ) -> Played<X, L, D, Q>
     ensures count { result.count ≡ min (length calls.now) (length answers.old) }
-    ensures answered { answers.new ≡ answers_to (fresh (size_over plan.capacity (X.Row.cells index) (L.Row.cells links) (D.Row.cells values) (Q.Row.cells slots))) (take result.count calls.now) ++ drop result.count answers.old }
-    ensures after { laid X.Row.cells L.Row.cells D.Row.cells Q.Row.cells result.table ≡ cells_after_all (fresh_layout (size_over plan.capacity (X.Row.cells index) (L.Row.cells links) (D.Row.cells values) (Q.Row.cells slots)) (X.Row.cells index) (L.Row.cells links) (D.Row.cells values) (Q.Row.cells slots)) (take result.count calls.now) }
-    ensures reached { Reached (size_over plan.capacity (X.Row.cells index) (L.Row.cells links) (D.Row.cells values) (Q.Row.cells slots)) (paired (take result.count calls.now) (take result.count answers.new)) (laid X.Row.cells L.Row.cells D.Row.cells Q.Row.cells result.table) }
-    ensures beyond { SameBeyond (bare (size_over plan.capacity (X.Row.cells index) (L.Row.cells links) (D.Row.cells values) (Q.Row.cells slots)) (X.Row.cells index) (L.Row.cells links) (D.Row.cells values) (Q.Row.cells slots)) (laid X.Row.cells L.Row.cells D.Row.cells Q.Row.cells result.table) }
-    ensures outside { (X.Row.outside result.table.idx_to_data ≡ X.Row.outside index) × ((L.Row.outside result.table.idx_to_data_free_list ≡ L.Row.outside links) × ((D.Row.outside result.table.«data» ≡ D.Row.outside values) × (Q.Row.outside result.table.data_next_free_index.row ≡ Q.Row.outside slots))) }
+    ensures answered { answers.new ≡ answers_to (fresh (size_over plan.capacity (X.Row.cells rows.index) (L.Row.cells rows.links) (D.Row.cells rows.values) (Q.Row.cells rows.slots))) (take result.count calls.now) ++ drop result.count answers.old }
+    ensures after { laid X.Row.cells L.Row.cells D.Row.cells result.table ≡ cells_after_all (fresh_layout (size_over plan.capacity (X.Row.cells rows.index) (L.Row.cells rows.links) (D.Row.cells rows.values) (Q.Row.cells rows.slots)) (X.Row.cells rows.index) (L.Row.cells rows.links) (D.Row.cells rows.values) (Q.Row.cells rows.slots)) (take result.count calls.now) }
+    ensures reached { Reached (size_over plan.capacity (X.Row.cells rows.index) (L.Row.cells rows.links) (D.Row.cells rows.values) (Q.Row.cells rows.slots)) (paired (take result.count calls.now) (take result.count answers.new)) (laid X.Row.cells L.Row.cells D.Row.cells result.table) }
+    ensures beyond { SameBeyond (bare (size_over plan.capacity (X.Row.cells rows.index) (L.Row.cells rows.links) (D.Row.cells rows.values) (Q.Row.cells rows.slots)) (X.Row.cells rows.index) (L.Row.cells rows.links) (D.Row.cells rows.values) (Q.Row.cells rows.slots)) (laid X.Row.cells L.Row.cells D.Row.cells result.table) }
+    ensures outside { (X.Row.outside result.table.idx_to_data ≡ X.Row.outside rows.index) × ((L.Row.outside result.table.idx_to_data_free_list ≡ L.Row.outside rows.links) × ((D.Row.outside result.table.«data» ≡ D.Row.outside rows.values) × (Q.Row.outside result.table.data_next_free_index.row ≡ Q.Row.outside rows.slots))) }
 {
-    let mut table = plan.init(index, links, values, slots);
+    let mut table = plan.init(rows);
     let count = run(&mut table, calls, answers);
     Played { count, table }
 }

@@ -104,4 +104,4 @@ Does l before r printedNow l' text next = (t : Table ℕ) → Means l t → OnOk
 
 -- the cells and registers of a script's table
 abbrev pub keys_layout : {row : _} → MetaSlotMap (InlineRow ℕ) (InlineRow FreeListEntry) (InlineRow ℕ) (InlineRow ℕ) ℕ row → Layout ℕ
-keys_layout t = laid (λ r. r.cells) (λ r. r.cells) (λ r. r.cells) (λ r. r.cells) t
+keys_layout t = laid (λ r. r.cells) (λ r. r.cells) (λ r. r.cells) t

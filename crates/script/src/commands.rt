@@ -9,9 +9,9 @@ ghost use Rattle.scanner.specs.declared.command.Command.TheVariants.{Make};
 use crate::printing::{print_answer, print_pair, print_refusal};
 use history::Call;
 use play::perform;
-use rows::{FreeListEntry, InlineRow, NONE};
+use rows::{FreeListEntry, InlineRow, NO_LINK, NONE};
 use scanner::Command;
-use slotmap::{Cursor, MetaSlotMap, Plan, SlotMap};
+use slotmap::{Cursor, MetaSlotMap, Plan, Rows, SlotMap};
 use std::alloc::{AllocError, Global};
 
 // The table of a script: numbers for up to 64 keys, inside itself.
@@ -21,12 +21,6 @@ pub(crate) type Keys = MetaSlotMap<
     InlineRow<u32>,
     InlineRow<u32>,
 >;
-
-// A link that leads nowhere.
-pub(crate) const NO_LINK: FreeListEntry = FreeListEntry {
-    previous: NONE,
-    next: NONE,
-};
 
 // Makes a call, and prints its answer.
 fn answer_call<T: SlotMap<Value = u32>>(
@@ -84,14 +78,16 @@ fn make_table(
 ) -> Result<(), AllocError>
     ensures { Does (keys_layout table.old) (string_bytes out.old) result (string_bytes out.new) (keys_layout table.new) (λ t. said_by t (Make capacity)) (λ t. table_after t (Make capacity)) }
 {
-    let mut index = InlineRow::filled(NONE);
-    let mut links = InlineRow::filled(NO_LINK);
-    let mut values = InlineRow::filled(0);
-    let mut slots = InlineRow::filled(0);
+    let mut rows = Rows {
+        index: InlineRow::filled(NONE),
+        links: InlineRow::filled(NO_LINK),
+        values: InlineRow::filled(0),
+        slots: InlineRow::filled(0),
+    };
     let plan = Plan::new(capacity);
-    match plan.check(&mut index, &mut links, &mut values, &mut slots) {
+    match plan.check(&mut rows) {
         Ok(()) => {
-            *table = plan.init(index, links, values, slots);
+            *table = plan.init(rows);
             out.push_str("ok")
         }
         Err(refusal) => print_refusal(heap, out, refusal),

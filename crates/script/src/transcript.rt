@@ -6,12 +6,12 @@ ghost use Rattle.text.specs.Lines.{lines};
 ghost use Rattle.scanner.specs.Legal.{scanned};
 ghost use Rattle.script.specs.Transcript.{line_said, line_after, printed, transcript, Does, keys_layout};
 
-use crate::commands::{Keys, NO_LINK, carry_out};
+use crate::commands::{Keys, carry_out};
 use crate::printing::print_refusal;
 use refusal::Refusal;
-use rows::{InlineRow, NONE};
+use rows::{InlineRow, NO_LINK, NONE};
 use scanner::{Command, scan};
-use slotmap::Plan;
+use slotmap::{Plan, Rows};
 use std::alloc::{AllocError, Global};
 use text::LineReader;
 
@@ -72,12 +72,12 @@ pub fn transcribe(heap: Global, input: &[u8]) -> Result<String, AllocError>
         out.push_str("\n")?;
         return Ok(out);
     }
-    let mut table = Plan::new(0).init(
-        InlineRow::filled(NONE),
-        InlineRow::filled(NO_LINK),
-        InlineRow::filled(0),
-        InlineRow::filled(0),
-    );
+    let mut table = Plan::new(0).init(Rows {
+        index: InlineRow::filled(NONE),
+        links: InlineRow::filled(NO_LINK),
+        values: InlineRow::filled(0),
+        slots: InlineRow::filled(0),
+    });
     carry_out_lines(heap, &mut out, &mut table, input)?;
     Ok(out)
 }

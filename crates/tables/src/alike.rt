@@ -4,7 +4,7 @@ use history::{Answer, Call};
 use play::play;
 use refusal::Refusal;
 use rows::{FreeListEntry, InlineRow, SliceRow, WindowRow};
-use slotmap::Plan;
+use slotmap::{Plan, Rows};
 use std::process::Abort;
 
 const LINK: FreeListEntry = FreeListEntry {
@@ -68,10 +68,12 @@ fn over_slices(rt: HostRuntime) {
     let mut answers = [Ok(Answer::Done); 16];
     let played = play(
         Plan::new(70000),
-        SliceRow::new(&mut index),
-        SliceRow::new(&mut links),
-        SliceRow::new(&mut values),
-        SliceRow::new(&mut slots),
+        Rows {
+            index: SliceRow::new(&mut index),
+            links: SliceRow::new(&mut links),
+            values: SliceRow::new(&mut values),
+            slots: SliceRow::new(&mut slots),
+        },
         &script(),
         &mut answers,
     );
@@ -84,10 +86,12 @@ fn inside_the_table(rt: HostRuntime) {
     let mut answers = [Ok(Answer::Done); 16];
     let played = play(
         Plan::new(4),
-        InlineRow::filled(1),
-        InlineRow::filled(LINK),
-        InlineRow::filled(2),
-        InlineRow::filled(3),
+        Rows {
+            index: InlineRow::filled(1),
+            links: InlineRow::filled(LINK),
+            values: InlineRow::filled(2),
+            slots: InlineRow::filled(3),
+        },
         &script(),
         &mut answers,
     );
@@ -112,10 +116,12 @@ fn in_four_parts_of_one_slice_of_bytes(rt: HostRuntime) {
     let mut answers = [Ok(Answer::Done); 16];
     let played = play(
         Plan::new(4),
-        index,
-        links,
-        values,
-        slots,
+        Rows {
+            index,
+            links,
+            values,
+            slots,
+        },
         &script(),
         &mut answers,
     );
@@ -128,10 +134,12 @@ fn as_many_calls_as_places(rt: HostRuntime) {
     let mut answers = [Ok(Answer::Number(77)); 2];
     let played = play(
         Plan::new(1),
-        InlineRow::filled(1),
-        InlineRow::filled(LINK),
-        InlineRow::filled(2),
-        InlineRow::filled(3),
+        Rows {
+            index: InlineRow::filled(1),
+            links: InlineRow::filled(LINK),
+            values: InlineRow::filled(2),
+            slots: InlineRow::filled(3),
+        },
         &[Call::Insert(5)],
         &mut answers,
     );

@@ -2,7 +2,7 @@
 use crate::texture::Texture;
 use codes::{Deadline, PackedRow, Voice};
 use rows::{FreeListEntry, InlineRow, SliceRow};
-use slotmap::{Cursor, Plan, SlotMap};
+use slotmap::{Cursor, Plan, Rows, SlotMap};
 
 const LINK: FreeListEntry = FreeListEntry {
     previous: 0,
@@ -20,12 +20,12 @@ const VOICE: Voice = Voice {
 fn voices_in_bytes(rt: HostRuntime) {
     let mut bytes = [0; 25];
     let voices: PackedRow<Voice, SliceRow<u8>> = PackedRow::new(SliceRow::new(&mut bytes));
-    let mut table = Plan::new(64).init(
-        InlineRow::filled(0),
-        InlineRow::filled(LINK),
-        voices,
-        InlineRow::filled(0),
-    );
+    let mut table = Plan::new(64).init(Rows {
+        index: InlineRow::filled(0),
+        links: InlineRow::filled(LINK),
+        values: voices,
+        slots: InlineRow::filled(0),
+    });
     assert_eq!(rt; table.capacity(), 2);
     assert_eq!(rt; table.insert_at(1, VOICE), Ok(()));
     assert_eq!(rt; table.get(1), Ok(Some(VOICE)));
@@ -35,12 +35,12 @@ fn voices_in_bytes(rt: HostRuntime) {
 #[test]
 fn deadlines(rt: HostRuntime) {
     let mut frames: [Deadline; 3] = [0; 3];
-    let mut table = Plan::new(3).init(
-        InlineRow::filled(0),
-        InlineRow::filled(LINK),
-        SliceRow::new(&mut frames),
-        InlineRow::filled(0),
-    );
+    let mut table = Plan::new(3).init(Rows {
+        index: InlineRow::filled(0),
+        links: InlineRow::filled(LINK),
+        values: SliceRow::new(&mut frames),
+        slots: InlineRow::filled(0),
+    });
     assert_eq!(rt; table.insert(u64::MAX), Ok(Some(0)));
     assert_eq!(rt; table.replace(0, 5), Ok(Some(u64::MAX)));
     assert_eq!(rt; table.replace(1, 5), Ok(None));
@@ -58,12 +58,12 @@ fn textures_by_a_cursor(rt: HostRuntime) {
         page: 8,
         wide: false,
     };
-    let mut table = Plan::new(5).init(
-        InlineRow::filled(0),
-        InlineRow::filled(LINK),
-        InlineRow::filled(first),
-        InlineRow::filled(0),
-    );
+    let mut table = Plan::new(5).init(Rows {
+        index: InlineRow::filled(0),
+        links: InlineRow::filled(LINK),
+        values: InlineRow::filled(first),
+        slots: InlineRow::filled(0),
+    });
     assert_eq!(rt; table.insert_at(4, second), Ok(()));
     assert_eq!(rt; table.insert_at(1, first), Ok(()));
     let mut cursor = Cursor::new();

@@ -2,7 +2,7 @@
 use codes::PackedRow;
 use refusal::Refusal;
 use rows::{FreeListEntry, InlineRow, Row, SliceRow};
-use slotmap::{Plan, SlotMap};
+use slotmap::{Plan, Rows, SlotMap};
 use std::process::Abort;
 
 // Three keys are handed out, two given back, and three handed out again.
@@ -38,7 +38,12 @@ fn four_keys_over_inline_rows(rt: HostRuntime) {
         plan.check(&mut index, &mut links, &mut values, &mut slots),
         Ok(())
     );
-    let mut table = plan.init(index, links, values, slots);
+    let mut table = plan.init(Rows {
+        index,
+        links,
+        values,
+        slots,
+    });
     churn(&rt, &mut table);
 }
 
@@ -52,12 +57,12 @@ fn four_keys_over_slices_and_packed_rows(rt: HostRuntime) {
         &mut link_bytes,
     ));
     let slots: PackedRow<u32, SliceRow<u8>> = PackedRow::new(SliceRow::new(&mut slot_bytes));
-    let mut table = Plan::new(u32::MAX).init(
-        SliceRow::new(&mut index),
+    let mut table = Plan::new(u32::MAX).init(Rows {
+        index: SliceRow::new(&mut index),
         links,
-        SliceRow::new(&mut values),
+        values: SliceRow::new(&mut values),
         slots,
-    );
+    });
     churn(&rt, &mut table);
     let rows = table.into_rows();
     let index = rows.index.into_slice();
@@ -75,7 +80,12 @@ fn plans_that_do_not_fit(rt: HostRuntime) {
         plan.check(&mut index, &mut links, &mut values, &mut slots),
         Err(Refusal::PlanTooLarge)
     );
-    let mut none = Plan::new(0).init(index, links, values, slots);
+    let mut none = Plan::new(0).init(Rows {
+        index,
+        links,
+        values,
+        slots,
+    });
     assert_eq!(rt; none.insert(1), Ok(None));
     assert_eq!(rt; none.get(0), Err(Refusal::KeyPastTable));
 }

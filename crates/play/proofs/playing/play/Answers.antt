@@ -18,7 +18,7 @@ returns g c =
     let vs = g.D.Row.cells c.args.values in
     let qs = g.Q.Row.cells c.args.slots in
     let C = least c.args.plan.capacity (length xs) (length ls) (length vs) (length qs) in
-    let o = laid g.X.Row.cells g.L.Row.cells g.D.Row.cells g.Q.Row.cells c.init-table.result in
+    let o = laid g.X.Row.cells g.L.Row.cells g.D.Row.cells c.init-table.result in
     let made = c.init-table.ensures in
     let ran = c.run-count.ensures in
     let done = take c.run-count.result c.args.calls.now in
@@ -27,7 +27,7 @@ returns g c =
       answered = ran.value ∙ ap (λ as'. as' ++ drop c.run-count.result c.args.answers.now) (all_answer o (fresh C) done made.means);
       after = ran.after ∙ ap (λ l. cells_after_all l done) made.cells;
       reached = ran.reached C [] (reached_fresh C o made.means);
-      beyond = beyond_more (bare C xs ls vs qs) o (laid g.X.Row.cells g.L.Row.cells g.D.Row.cells g.Q.Row.cells c.run-count.new.table) (ap capacity made.cells) made.beyond ran.beyond;
+      beyond = beyond_more (bare C xs ls vs qs) o (laid g.X.Row.cells g.L.Row.cells g.D.Row.cells c.run-count.new.table) (ap capacity made.cells) made.beyond ran.beyond;
       outside = (
         ap (λ q. q.0) ran.beside ∙ made.outside.0,
         (ap (λ q. q.1) ran.beside ∙ made.outside.1.0, (ap (λ q. q.2) ran.beside ∙ made.outside.1.1.0, ap (λ q. q.3) ran.beside ∙ made.outside.1.1.1)),

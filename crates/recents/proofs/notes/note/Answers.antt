@@ -11,7 +11,7 @@ use Rattle.recents.proofs.notes.note.Goals as goal
 -- a line that is no number leaves the queue as it is
 pub returns-in_default-clause-held : goal.returns-in_default-clause-held
 returns-in_default-clause-held g c =
-    let q = queue g.R.Row.cells c.args.queue.now in
+    let q = queue c.args.queue.now in
     let sized = length_contents q c.args.queue.now.position.within c.args.queue.now.backed in
     let same = ap (latest q.capacity) (append-nil (contents q)) ∙ latest_all q.capacity (contents q) (omega arith) in
     on_ok_weaker c.complain.result

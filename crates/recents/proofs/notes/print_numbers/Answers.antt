@@ -8,14 +8,14 @@ use Rattle.recents.proofs.notes.print_numbers.Goals as goal
 
 pub loop-n-smaller : goal.loop-n-smaller
 loop-n-smaller g c =
-    let old = contents (queue g.R.Row.cells c.loop-n.queue) in
+    let old = contents (queue c.loop-n.queue) in
     let some = some_first old c.in-Some.n (sym c.in-Some.ensures.means.value) in
     omega (arith, ap length c.in-Some.ensures.means.holds ∙ length-drop 1 old)
 
 pub loop-n-preserved : goal.loop-n-preserved
 loop-n-preserved g c =
-    let old = contents (queue g.R.Row.cells c.loop-n.queue) in
-    let new = contents (queue g.R.Row.cells c.pop.new.self) in
+    let old = contents (queue c.loop-n.queue) in
+    let new = contents (queue c.pop.new.self) in
     let n = c.in-Some.n in
     let out = string_bytes c.loop-n.out in
     ap (λ xs. xs ++ flat_map number_line new) c.in_ok-print_number.ensures
@@ -26,6 +26,6 @@ loop-n-preserved g c =
 
 pub returns : goal.returns
 returns g c =
-    let old = contents (queue g.R.Row.cells c.loop-n.queue) in
+    let old = contents (queue c.loop-n.queue) in
     let out = string_bytes c.loop-n.out in
     sym (ap (λ xs. out ++ flat_map number_line xs) (none_left old (sym c.in_default.ensures.means.value)) ∙ append-nil out) ∙ c.loop-n.invariant
