@@ -29,21 +29,15 @@ const LINK: FreeListEntry = FreeListEntry {
 
 #[test]
 fn four_keys_over_inline_rows(rt: HostRuntime) {
-    let mut index = InlineRow::filled(0);
-    let mut links = InlineRow::filled(LINK);
-    let mut values = InlineRow::filled(0);
-    let mut slots = InlineRow::filled(0);
+    let mut rows = Rows {
+        index: InlineRow::filled(0),
+        links: InlineRow::filled(LINK),
+        values: InlineRow::filled(0),
+        slots: InlineRow::filled(0),
+    };
     let plan = Plan::new(4);
-    assert_eq!(rt;
-        plan.check(&mut index, &mut links, &mut values, &mut slots),
-        Ok(())
-    );
-    let mut table = plan.init(Rows {
-        index,
-        links,
-        values,
-        slots,
-    });
+    assert_eq!(rt; plan.check(&mut rows), Ok(()));
+    let mut table = plan.init(rows);
     churn(&rt, &mut table);
 }
 
@@ -71,21 +65,15 @@ fn four_keys_over_slices_and_packed_rows(rt: HostRuntime) {
 
 #[test]
 fn plans_that_do_not_fit(rt: HostRuntime) {
-    let mut index = InlineRow::filled(0);
-    let mut links = InlineRow::filled(LINK);
-    let mut values = InlineRow::filled(0);
-    let mut slots = InlineRow::filled(0);
+    let mut rows = Rows {
+        index: InlineRow::filled(0),
+        links: InlineRow::filled(LINK),
+        values: InlineRow::filled(0),
+        slots: InlineRow::filled(0),
+    };
     let plan = Plan::new(65);
-    assert_eq!(rt;
-        plan.check(&mut index, &mut links, &mut values, &mut slots),
-        Err(Refusal::PlanTooLarge)
-    );
-    let mut none = Plan::new(0).init(Rows {
-        index,
-        links,
-        values,
-        slots,
-    });
+    assert_eq!(rt; plan.check(&mut rows), Err(Refusal::PlanTooLarge));
+    let mut none = Plan::new(0).init(rows);
     assert_eq!(rt; none.insert(1), Ok(None));
     assert_eq!(rt; none.get(0), Err(Refusal::KeyPastTable));
 }

@@ -13,10 +13,10 @@ use Rattle.play.proofs.playing.play.Goals as goal
 
 pub returns : goal.returns
 returns g c =
-    let xs = g.X.Row.cells c.args.index in
-    let ls = g.L.Row.cells c.args.links in
-    let vs = g.D.Row.cells c.args.values in
-    let qs = g.Q.Row.cells c.args.slots in
+    let xs = g.X.Row.cells c.args.rows.index in
+    let ls = g.L.Row.cells c.args.rows.links in
+    let vs = g.D.Row.cells c.args.rows.values in
+    let qs = g.Q.Row.cells c.args.rows.slots in
     let C = least c.args.plan.capacity (length xs) (length ls) (length vs) (length qs) in
     let o = laid g.X.Row.cells g.L.Row.cells g.D.Row.cells c.init-table.result in
     let made = c.init-table.ensures in
