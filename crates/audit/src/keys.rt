@@ -1,7 +1,7 @@
 // The keys: those that are vacant stand in the free list, and those that hold have no links.
 ghost use Rattle.std.specs.Prelude.{◌≡◌, MatchBool};
 ghost use Rattle.audit.specs.Parts.{next_key, Listed, Loose};
-ghost use Rattle.rows.specs.Cells.{Kept};
+ghost use Rattle.rows.specs.Kept.{Kept};
 
 use crate::cells::cell_or;
 use rows::{FreeListEntry, NO_LINK, NONE, Row};
@@ -16,8 +16,8 @@ fn next_key<X: Row<Item = u32>, L: Row<Item = FreeListEntry>>(
     key: u32,
 ) -> Option<u32>
     ensures value { result ≡ next_key (X.Row.cells index.old) (L.Row.cells links.old) capacity previous key }
-    ensures index { Kept X.Row.cells X.Row.outside X.Row.stored index.old index.new }
-    ensures links { Kept L.Row.cells L.Row.outside L.Row.stored links.old links.new }
+    ensures index { Kept X.Row index.old index.new }
+    ensures links { Kept L.Row links.old links.new }
 {
     if key >= capacity {
         return None;
@@ -41,8 +41,8 @@ pub(crate) fn free_list_stands<X: Row<Item = u32>, L: Row<Item = FreeListEntry>>
     keys: u32,
 ) -> bool
     ensures value { MatchBool result (Listed (X.Row.cells index.old) (L.Row.cells links.old) capacity head keys) (Listed (X.Row.cells index.old) (L.Row.cells links.old) capacity head keys → ⊥) }
-    ensures index { Kept X.Row.cells X.Row.outside X.Row.stored index.old index.new }
-    ensures links { Kept L.Row.cells L.Row.outside L.Row.stored links.old links.new }
+    ensures index { Kept X.Row index.old index.new }
+    ensures links { Kept L.Row links.old links.new }
 {
     let mut previous = NONE;
     let mut key = head;
@@ -63,8 +63,8 @@ pub(crate) fn holding_keys_are_loose<X: Row<Item = u32>, L: Row<Item = FreeListE
     capacity: u32,
 ) -> bool
     ensures value { MatchBool result (Loose (X.Row.cells index.old) (L.Row.cells links.old) capacity) (Loose (X.Row.cells index.old) (L.Row.cells links.old) capacity → ⊥) }
-    ensures index { Kept X.Row.cells X.Row.outside X.Row.stored index.old index.new }
-    ensures links { Kept L.Row.cells L.Row.outside L.Row.stored links.old links.new }
+    ensures index { Kept X.Row index.old index.new }
+    ensures links { Kept L.Row links.old links.new }
 {
     for key in 0..capacity {
         if cell_or(index, key, NONE) == NONE {

@@ -1,7 +1,7 @@
 // The slots: each belongs to one key or waits once. A slot that was met has a mark.
 ghost use Rattle.std.specs.Prelude.{◌≡◌, ℕ, ◌-◌, ◌<◌, ◌≤◌, true, false, length, MatchBool, slice_index_or, slice_set};
 ghost use Rattle.audit.specs.Parts.{Unmarked, ring, Apart, Marked, Shared};
-ghost use Rattle.rows.specs.Cells.{Kept};
+ghost use Rattle.rows.specs.Kept.{Kept};
 ghost use Rattle.audit.specs.Verdict.{queue_of};
 
 use crate::cells::cell_or;
@@ -33,7 +33,7 @@ fn mark_slots<R: Row<Item = u32>>(
 ) -> bool
     requires { (capacity ≤ 65535) × ((places ≤ capacity) × ((first ≤ 131070) × (capacity ≤ length marks.old))) }
     ensures value { MatchBool result (Marked marks.old marks.new capacity (ring (R.Row.cells row.old) capacity first) places slots) (Apart marks.old capacity (ring (R.Row.cells row.old) capacity first) places slots → ⊥) }
-    ensures kept { Kept R.Row.cells R.Row.outside R.Row.stored row.old row.new }
+    ensures kept { Kept R.Row row.old row.new }
 {
     let mut marked = 0;
     for i in 0..places {
@@ -64,8 +64,8 @@ pub(crate) fn slots_stand<X: Row<Item = u32>, Q: Row<Item = u32>>(
     requires room { registers.capacity ≤ length marks.old }
     requires clear { (s : ℕ) → s < registers.capacity → slice_index_or marks.old s false ≡ false }
     ensures value { MatchBool result (Shared (X.Row.cells index.old) (queue_of registers (Q.Row.cells slots.old)) registers.len) (Shared (X.Row.cells index.old) (queue_of registers (Q.Row.cells slots.old)) registers.len → ⊥) }
-    ensures index { Kept X.Row.cells X.Row.outside X.Row.stored index.old index.new }
-    ensures slots { Kept Q.Row.cells Q.Row.outside Q.Row.stored slots.old slots.new }
+    ensures index { Kept X.Row index.old index.new }
+    ensures slots { Kept Q.Row slots.old slots.new }
 {
     let Registers {
         capacity,

@@ -2,7 +2,7 @@
 ghost use Rattle.std.specs.Prelude.{◌≡◌, ℕ, ◌<◌, ◌≤◌, false, length, MatchBool, nat_le, slice_index_or};
 ghost use Rattle.model.specs.Sound.{Stands};
 ghost use Rattle.audit.specs.Parts.{Sized};
-ghost use Rattle.rows.specs.Cells.{Kept};
+ghost use Rattle.rows.specs.Kept.{Kept};
 ghost use Rattle.audit.specs.Verdict.{layout_of, Verdict};
 
 use crate::keys::{free_list_stands, holding_keys_are_loose};
@@ -14,7 +14,7 @@ use rows::{FreeListEntry, Row};
 // Whether a row has `count` cells or more.
 fn has_cells<R: Row>(row: &mut R, count: u32) -> bool
     ensures value { result ≡ nat_le count (length (R.Row.cells row.old)) }
-    ensures kept { Kept R.Row.cells R.Row.outside R.Row.stored row.old row.new }
+    ensures kept { Kept R.Row row.old row.new }
 {
     count as usize <= row.count()
 }
@@ -29,10 +29,10 @@ fn sizes_stand<X: Row<Item = u32>, L: Row<Item = FreeListEntry>, D: Row, Q: Row<
     registers: Registers,
 ) -> bool
     ensures value { MatchBool result (Sized (layout_of registers (X.Row.cells index.old) (L.Row.cells links.old) (D.Row.cells values.old) (Q.Row.cells slots.old))) (Sized (layout_of registers (X.Row.cells index.old) (L.Row.cells links.old) (D.Row.cells values.old) (Q.Row.cells slots.old)) → ⊥) }
-    ensures index { Kept X.Row.cells X.Row.outside X.Row.stored index.old index.new }
-    ensures links { Kept L.Row.cells L.Row.outside L.Row.stored links.old links.new }
-    ensures values { Kept D.Row.cells D.Row.outside D.Row.stored values.old values.new }
-    ensures slots { Kept Q.Row.cells Q.Row.outside Q.Row.stored slots.old slots.new }
+    ensures index { Kept X.Row index.old index.new }
+    ensures links { Kept L.Row links.old links.new }
+    ensures values { Kept D.Row values.old values.new }
+    ensures slots { Kept Q.Row slots.old slots.new }
 {
     let Registers {
         capacity,
@@ -64,10 +64,10 @@ fn stands<X: Row<Item = u32>, L: Row<Item = FreeListEntry>, D: Row, Q: Row<Item 
 ) -> bool
     requires { (65535 ≤ length marks.old) × (((s : ℕ) → s < 65535 → slice_index_or marks.old s false ≡ false)) }
     ensures value { MatchBool result (Stands (layout_of registers (X.Row.cells index.old) (L.Row.cells links.old) (D.Row.cells values.old) (Q.Row.cells slots.old))) (Stands (layout_of registers (X.Row.cells index.old) (L.Row.cells links.old) (D.Row.cells values.old) (Q.Row.cells slots.old)) → ⊥) }
-    ensures index { Kept X.Row.cells X.Row.outside X.Row.stored index.old index.new }
-    ensures links { Kept L.Row.cells L.Row.outside L.Row.stored links.old links.new }
-    ensures values { Kept D.Row.cells D.Row.outside D.Row.stored values.old values.new }
-    ensures slots { Kept Q.Row.cells Q.Row.outside Q.Row.stored slots.old slots.new }
+    ensures index { Kept X.Row index.old index.new }
+    ensures links { Kept L.Row links.old links.new }
+    ensures values { Kept D.Row values.old values.new }
+    ensures slots { Kept Q.Row slots.old slots.new }
 {
     if !sizes_stand(index, links, values, slots, registers) {
         return false;
@@ -92,10 +92,10 @@ pub fn audit<X: Row<Item = u32>, L: Row<Item = FreeListEntry>, D: Row, Q: Row<It
     registers: Registers,
 ) -> Result<(), Refusal>
     ensures verdict { Verdict result (layout_of registers (X.Row.cells index.old) (L.Row.cells links.old) (D.Row.cells values.old) (Q.Row.cells slots.old)) }
-    ensures index { Kept X.Row.cells X.Row.outside X.Row.stored index.old index.new }
-    ensures links { Kept L.Row.cells L.Row.outside L.Row.stored links.old links.new }
-    ensures values { Kept D.Row.cells D.Row.outside D.Row.stored values.old values.new }
-    ensures slots { Kept Q.Row.cells Q.Row.outside Q.Row.stored slots.old slots.new }
+    ensures index { Kept X.Row index.old index.new }
+    ensures links { Kept L.Row links.old links.new }
+    ensures values { Kept D.Row values.old values.new }
+    ensures slots { Kept Q.Row slots.old slots.new }
 {
     let mut marks = [false; 65535];
     if stands(index, links, values, slots, registers, &mut marks) {

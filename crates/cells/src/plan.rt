@@ -6,7 +6,7 @@ ghost use Rattle.model.specs.Sound.{Means};
 ghost use Rattle.model.specs.Tables.{fresh};
 ghost use Rattle.history.specs.Promise.{Reached};
 ghost use Rattle.cells.specs.Laid.{laid};
-ghost use Rattle.rows.specs.Cells.{Kept};
+ghost use Rattle.rows.specs.Kept.{Kept};
 
 use crate::fresh::{clear_index, queue_all};
 use crate::slotmap::{MetaSlotMap, Rows};
@@ -27,10 +27,10 @@ fn capacity_over<X: Row<Item = u32>, L: Row<Item = FreeListEntry>, D: Row, Q: Ro
     rows: &mut Rows<X, L, D, Q>,
 ) -> u32
     ensures value { result ≡ least asked (length (X.Row.cells rows.old.index)) (length (L.Row.cells rows.old.links)) (length (D.Row.cells rows.old.values)) (length (Q.Row.cells rows.old.slots)) }
-    ensures index { Kept X.Row.cells X.Row.outside X.Row.stored rows.old.index rows.new.index }
-    ensures links { Kept L.Row.cells L.Row.outside L.Row.stored rows.old.links rows.new.links }
-    ensures values { Kept D.Row.cells D.Row.outside D.Row.stored rows.old.values rows.new.values }
-    ensures slots { Kept Q.Row.cells Q.Row.outside Q.Row.stored rows.old.slots rows.new.slots }
+    ensures index { Kept X.Row rows.old.index rows.new.index }
+    ensures links { Kept L.Row rows.old.links rows.new.links }
+    ensures values { Kept D.Row rows.old.values rows.new.values }
+    ensures slots { Kept Q.Row rows.old.slots rows.new.slots }
 {
     let shortest = rows
         .index
@@ -55,10 +55,10 @@ impl Plan {
         rows: &mut Rows<X, L, D, Q>,
     ) -> Result<(), Refusal>
         ensures value { result ≡ plan_answer self.now.capacity (length (X.Row.cells rows.old.index)) (length (L.Row.cells rows.old.links)) (length (D.Row.cells rows.old.values)) (length (Q.Row.cells rows.old.slots)) }
-        ensures index { Kept X.Row.cells X.Row.outside X.Row.stored rows.old.index rows.new.index }
-        ensures links { Kept L.Row.cells L.Row.outside L.Row.stored rows.old.links rows.new.links }
-        ensures values { Kept D.Row.cells D.Row.outside D.Row.stored rows.old.values rows.new.values }
-        ensures slots { Kept Q.Row.cells Q.Row.outside Q.Row.stored rows.old.slots rows.new.slots }
+        ensures index { Kept X.Row rows.old.index rows.new.index }
+        ensures links { Kept L.Row rows.old.links rows.new.links }
+        ensures values { Kept D.Row rows.old.values rows.new.values }
+        ensures slots { Kept Q.Row rows.old.slots rows.new.slots }
     {
         let capacity = capacity_over(self.capacity, rows);
         if self.capacity == capacity {

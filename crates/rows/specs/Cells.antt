@@ -1,5 +1,5 @@
 -- What the calls of a row answer, by its cells.
-use Rattle.std.specs.Prelude.{◌≡◌, ℕ, ◌+◌, cond, List, length, take, drop, Ok, Err, Result, nat_lt}
+use Rattle.std.specs.Prelude.{ℕ, ◌+◌, cond, List, length, take, drop, Ok, Err, Result, nat_lt}
 use Rattle.std.specs.List.{slice_get}
 use Rattle.std.specs.Option.{ok_or}
 use Rattle.refusal.specs.declared.Refusal.{Refusal}
@@ -24,7 +24,3 @@ Around O T = O × ℕ × ℕ × List T × List T
 -- of a window over cells xs, over an outside o
 abbrev pub around : {O T : Type 0} → O → ℕ → ℕ → List T → Around O T
 around o from most xs = (o, from, most, take from xs, drop (from + most) xs)
-
--- a row that was a and is b has the same cells, the same around them, and is stored as it was
-abbrev pub Kept : {R X O S : Type 0} → (R → X) → (R → O) → (R → S) → R → R → Type 0
-Kept cells outside stored a b = (cells b ≡ cells a) × (outside b ≡ outside a) × (stored b ≡ stored a)

@@ -1,6 +1,6 @@
 use Rattle.std.proofs.Common.{◌≡◌, ◌-◌}
 use Rattle.model.specs.Layouts.{nil}
-use Rattle.rows.specs.Cells.{Kept}
+use Rattle.rows.specs.Kept.{Kept}
 use Rattle.audit.proofs.Walks.{walk}
 use Rattle.audit.proofs.keys.free_list_stands.Given as goal
 
@@ -8,5 +8,5 @@ abbrev pub invariant-loop : goal.invariant-loop
 invariant-loop g l =
     (walk (g.X.Row.cells l.initial.index) (g.L.Row.cells l.initial.links) l.capacity (l.keys - l.counter) l.previous l.key
     ≡ walk (g.X.Row.cells l.initial.index) (g.L.Row.cells l.initial.links) l.capacity l.keys nil l.head)
-    × Kept g.X.Row.cells g.X.Row.outside g.X.Row.stored l.initial.index l.index
-    × Kept g.L.Row.cells g.L.Row.outside g.L.Row.stored l.initial.links l.links
+    × Kept g.X.Row l.initial.index l.index
+    × Kept g.L.Row l.initial.links l.links
