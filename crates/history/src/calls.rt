@@ -1,4 +1,8 @@
 // The calls of a table, and their answers, as values.
+ghost use Rattle.std.specs.Prelude.{Some};
+ghost use Rattle.history.specs.Said.{said};
+
+use std::fmt;
 
 // A call of a table that holds values of kind `V`. A step is that of a cursor which stands at
 // the given place.
@@ -28,4 +32,20 @@ pub enum Answer<V> {
     Pair(Option<(u32, V)>),
     Flag(bool),
     Number(u32),
+}
+
+// `ok`, a number, `key=value`, `yes` or `no`; or `none`.
+impl fmt::Display for Answer<u32> {
+    ghost output = { λ a. Some (said a) };
+
+    fn fmt<W: fmt::Write>(&self, f: &mut fmt::Formatter<W>) -> fmt::Result {
+        match *self {
+            Answer::Done => write!(f, "ok"),
+            Answer::Key(Some(n)) | Answer::Value(Some(n)) | Answer::Number(n) => write!(f, "{n}"),
+            Answer::Pair(Some((key, value))) => write!(f, "{key}={value}"),
+            Answer::Flag(true) => write!(f, "yes"),
+            Answer::Flag(false) => write!(f, "no"),
+            Answer::Key(None) | Answer::Value(None) | Answer::Pair(None) => write!(f, "none"),
+        }
+    }
 }

@@ -3,7 +3,8 @@ use Rattle.std.proofs.Common.{◌≡◌, ℕ, zero, suc, ◌+◌, ◌-◌, ◌<�
 use Rattle.std.specs.List.{range_with_len, flat_map}
 use Rattle.std.specs.Option.{option_map, option_or, option_to_list}
 use Rattle.model.specs.Tables.{Table, first_held, step_answer}
-use Rattle.script.specs.Transcript.{pair_text, pairs_from, blank_pairs, listed}
+use Rattle.history.specs.Said.{pair_text}
+use Rattle.script.specs.Transcript.{pairs_from, blank_pairs, listed}
 
 -- what the keys of a list hold
 abbrev held_of : (ℕ → Option ℕ) → List ℕ → List (ℕ × ℕ)
@@ -59,13 +60,26 @@ module _ (t : Table ℕ) (p : ℕ) where
       let same : p + (t.capacity - p) - (x.0 + 1) ≡ t.capacity - (x.0 + 1) = omega (arith, f.0, f.1) in
       f.2 ∙ ap (λ i. x ∷ held_of t.held (range_with_len (x.0 + 1) i)) same
 
--- one pair more is printed
-pub pairs_step : (t : Table ℕ) (p new : ℕ) (x : ℕ × ℕ) (before blank now start : List ℕ) → Some x ≡ step_answer t p → new ≡ x.0 + 1
-    → blank ≡ before ++ codes " " → now ≡ blank ++ pair_text x → before ++ blank_pairs (pairs_from t p) ≡ start
-    → now ++ blank_pairs (pairs_from t new) ≡ start
-pairs_step t p new x before blank now start e en eb ep es =
+-- the first pair is printed
+pub pairs_first : (t : Table ℕ) (p new : ℕ) (x : ℕ × ℕ) (before now : List ℕ) → Some x ≡ step_answer t p → new ≡ x.0 + 1
+    → now ≡ before ++ pair_text x → now ++ blank_pairs (pairs_from t new) ≡ before ++ listed (pairs_from t p)
+pairs_first t p new x before now e en ex =
     ap (λ n. now ++ blank_pairs (pairs_from t n)) en
-    ∙ ap (λ q. q ++ blank_pairs (pairs_from t (x.0 + 1))) (ep ∙ ap (λ q. q ++ pair_text x) eb ∙ append_assoc before (codes " ") (pair_text x))
+    ∙ ap (λ q. q ++ blank_pairs (pairs_from t (x.0 + 1))) ex
+    ∙ append_assoc before (pair_text x) (blank_pairs (pairs_from t (x.0 + 1)))
+    ∙ ap (λ q. before ++ listed q) (sym (pairs_some t p x (sym e)))
+
+-- or there is none
+pub pairs_dash : (t : Table ℕ) (p : ℕ) (before now : List ℕ) → None ≡ step_answer t p → now ≡ before ++ codes "-" → now ≡ before ++ listed (pairs_from t p)
+pairs_dash t p before now e ex = ex ∙ ap (λ q. before ++ listed q) (sym (pairs_none t p (sym e)))
+
+-- one pair more is printed
+pub pairs_step : (t : Table ℕ) (p new : ℕ) (x : ℕ × ℕ) (before now start : List ℕ) → Some x ≡ step_answer t p → new ≡ x.0 + 1
+    → now ≡ before ++ (codes " " ++ pair_text x) → before ++ blank_pairs (pairs_from t p) ≡ start
+    → now ++ blank_pairs (pairs_from t new) ≡ start
+pairs_step t p new x before now start e en ex es =
+    ap (λ n. now ++ blank_pairs (pairs_from t n)) en
+    ∙ ap (λ q. q ++ blank_pairs (pairs_from t (x.0 + 1))) ex
     ∙ append_assoc before (codes " " ++ pair_text x) (blank_pairs (pairs_from t (x.0 + 1)))
     ∙ ap (λ q. before ++ blank_pairs q) (sym (pairs_some t p x (sym e)))
     ∙ es
@@ -73,17 +87,3 @@ pairs_step t p new x before blank now start e en eb ep es =
 -- and none is left
 pub pairs_end : (t : Table ℕ) (p : ℕ) (now start : List ℕ) → None ≡ step_answer t p → now ++ blank_pairs (pairs_from t p) ≡ start → now ≡ start
 pairs_end t p now start e es = sym (append-nil now) ∙ ap (λ q. now ++ blank_pairs q) (sym (pairs_none t p (sym e))) ∙ es
-
--- a list of pairs that has a first one
-pub pairs_first : (t : Table ℕ) (p new : ℕ) (x : ℕ × ℕ) (before first now : List ℕ) → Some x ≡ step_answer t p → new ≡ x.0 + 1
-    → first ≡ before ++ pair_text x → now ≡ first ++ blank_pairs (pairs_from t new) → now ≡ before ++ listed (pairs_from t p)
-pairs_first t p new x before first now e en ef ex =
-    ex
-    ∙ ap (λ n. first ++ blank_pairs (pairs_from t n)) en
-    ∙ ap (λ q. q ++ blank_pairs (pairs_from t (x.0 + 1))) ef
-    ∙ append_assoc before (pair_text x) (blank_pairs (pairs_from t (x.0 + 1)))
-    ∙ ap (λ q. before ++ listed q) (sym (pairs_some t p x (sym e)))
-
--- and one that has none
-pub pairs_dash : (t : Table ℕ) (p : ℕ) (before now : List ℕ) → None ≡ step_answer t p → now ≡ before ++ codes "-" → now ≡ before ++ listed (pairs_from t p)
-pairs_dash t p before now e ex = ex ∙ ap (λ q. before ++ listed q) (sym (pairs_none t p (sym e)))

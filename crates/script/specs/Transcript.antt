@@ -1,5 +1,5 @@
 -- What is printed of a script, by the table's meaning.
-use Rattle.std.specs.Prelude.{◌≡◌, ℕ, ◌-◌, true, false, cond, List, [], ◌∷◌, ◌++◌, length, Some, None, Ok, Err, codes, decimal, Option, Result, OnOk, nat_le}
+use Rattle.std.specs.Prelude.{◌≡◌, ℕ, ◌-◌, cond, List, [], ◌∷◌, ◌++◌, length, Ok, Err, codes, Result, OnOk, nat_le}
 use Rattle.std.specs.List.{range_with_len, flat_map}
 use Rattle.std.specs.Option.{option_map, option_to_list}
 use Rattle.std.specs.declared.alloc.AllocError.{AllocError}
@@ -16,32 +16,16 @@ use Rattle.cells.specs.declared.slotmap.MetaSlotMap.{MetaSlotMap}
 use Rattle.history.specs.Calls.{answer_to, after}
 use Rattle.history.specs.declared.calls.Call.TheVariants as call
 use Rattle.history.specs.declared.calls.Answer.{Answer}
-use Rattle.history.specs.declared.calls.Answer.TheVariants.{Done, Key, Value, Pair, Flag, Number}
+use Rattle.history.specs.Said.{pair_text, said}
 use Rattle.text.specs.Lines.{lines}
 use Rattle.scanner.specs.Legal.{scanned}
 use Rattle.scanner.specs.declared.command.Command.{Command}
 use Rattle.scanner.specs.declared.command.Command.TheVariants.{Make, Insert, InsertAt, Remove, Get, Replace, NextFreeKey, Len, List as Listing}
 
--- a number, or `none`
-abbrev pub number_or_none : Option ℕ → List ℕ
-number_or_none None = codes "none"
-number_or_none (Some n) = decimal n
-
--- a key and its value
-abbrev pub pair_text : ℕ × ℕ → List ℕ
-pair_text pair = decimal pair.0 ++ (codes "=" ++ decimal pair.1)
-
--- the words of an answer
-abbrev pub said : Result (Answer ℕ) Refusal → List ℕ
-said (Ok Done) = codes "ok"
-said (Ok (Key k)) = number_or_none k
-said (Ok (Value v)) = number_or_none v
-said (Ok (Pair None)) = codes "none"
-said (Ok (Pair (Some pair))) = pair_text pair
-said (Ok (Flag true)) = codes "yes"
-said (Ok (Flag false)) = codes "no"
-said (Ok (Number n)) = decimal n
-said (Err refusal) = spelt refusal
+-- the words of an answer to a call, or of its refusal
+abbrev pub call_said : Result (Answer ℕ) Refusal → List ℕ
+call_said (Ok answer) = said answer
+call_said (Err refusal) = spelt refusal
 
 -- the holding keys from p on with their values, in rising order
 abbrev pub pairs_from : Table ℕ → ℕ → List (ℕ × ℕ)
@@ -58,13 +42,13 @@ listed (pair ∷ rest) = pair_text pair ++ blank_pairs rest
 -- what a command prints: `m` makes a table of at most 64 keys, the others are calls of the table, and `k` lists it
 abbrev pub said_by : Table ℕ → Command → List ℕ
 said_by t (Make C) = cond (nat_le C 64) (codes "ok") (spelt PlanTooLarge)
-said_by t (Insert v) = said (answer_to t (call.Insert v))
-said_by t (InsertAt k v) = said (answer_to t (call.InsertAt k v))
-said_by t (Remove k) = said (answer_to t (call.Remove k))
-said_by t (Get k) = said (answer_to t (call.Get k))
-said_by t (Replace k v) = said (answer_to t (call.Replace k v))
-said_by t NextFreeKey = said (answer_to t call.NextFreeKey)
-said_by t Len = said (answer_to t call.Len)
+said_by t (Insert v) = call_said (answer_to t (call.Insert v))
+said_by t (InsertAt k v) = call_said (answer_to t (call.InsertAt k v))
+said_by t (Remove k) = call_said (answer_to t (call.Remove k))
+said_by t (Get k) = call_said (answer_to t (call.Get k))
+said_by t (Replace k v) = call_said (answer_to t (call.Replace k v))
+said_by t NextFreeKey = call_said (answer_to t call.NextFreeKey)
+said_by t Len = call_said (answer_to t call.Len)
 said_by t Listing = listed (pairs_from t 0)
 
 -- and the table afterwards

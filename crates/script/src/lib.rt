@@ -2,7 +2,6 @@
 #![tactic(auto)]
 
 mod commands;
-mod printing;
 mod transcript;
 
 pub use transcript::transcribe;

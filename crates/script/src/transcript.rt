@@ -7,12 +7,12 @@ ghost use Rattle.scanner.specs.Legal.{scanned};
 ghost use Rattle.script.specs.Transcript.{line_said, line_after, printed, transcript, Does, keys_layout};
 
 use crate::commands::{Keys, carry_out};
-use crate::printing::print_refusal;
 use refusal::Refusal;
 use rows::{InlineRow, NO_LINK, NONE};
 use scanner::{Command, scan};
 use slotmap::{Plan, Rows};
 use std::alloc::{AllocError, Global};
+use std::fmt::Write;
 use text::LineReader;
 
 // The most bytes that a script has.
@@ -20,7 +20,6 @@ const MOST_BYTES: usize = 65536;
 
 // Carries out what was read of a line: its command, or how much of it begins a legal line.
 fn carry_out_read(
-    heap: Global,
     out: &mut String,
     table: &mut Keys,
     read: Result<Command, usize>,
@@ -28,35 +27,25 @@ fn carry_out_read(
     ensures { Does (keys_layout table.old) (string_bytes out.old) result (string_bytes out.new) (keys_layout table.new) (λ t. line_said t read) (λ t. line_after t read) }
 {
     match read {
-        Ok(command) => carry_out(heap, out, table, command),
-        Err(length) => print_refusal(heap, out, Refusal::LineNotLegal(length as u64)),
+        Ok(command) => carry_out(out, table, command),
+        Err(length) => write!(out, "{}", Refusal::LineNotLegal(length as u64)),
     }
 }
 
 // Carries out a line, and ends the line that is printed of it.
-fn carry_out_line(
-    heap: Global,
-    out: &mut String,
-    table: &mut Keys,
-    line: &[u8],
-) -> Result<(), AllocError>
+fn carry_out_line(out: &mut String, table: &mut Keys, line: &[u8]) -> Result<(), AllocError>
     ensures { Does (keys_layout table.old) (string_bytes out.old) result (string_bytes out.new) (keys_layout table.new) (λ t. line_said t (scanned line.now) ++ (10 ∷ [])) (λ t. line_after t (scanned line.now)) }
 {
-    carry_out_read(heap, out, table, scan(line))?;
+    carry_out_read(out, table, scan(line))?;
     out.push_str("\n")
 }
 
 // Carries out the lines of a script, one after another.
-fn carry_out_lines(
-    heap: Global,
-    out: &mut String,
-    table: &mut Keys,
-    text: &[u8],
-) -> Result<(), AllocError>
+fn carry_out_lines(out: &mut String, table: &mut Keys, text: &[u8]) -> Result<(), AllocError>
     ensures { (t : Table ℕ) → Means (keys_layout table.old) t → OnOk result (string_bytes out.new ≡ string_bytes out.old ++ printed t (lines text.now)) }
 {
     for line in LineReader::new(text) {
-        carry_out_line(heap, out, table, line)?;
+        carry_out_line(out, table, line)?;
     }
     Ok(())
 }
@@ -68,8 +57,7 @@ pub fn transcribe(heap: Global, input: &[u8]) -> Result<String, AllocError>
 {
     let mut out = String::new(heap);
     if input.len() > MOST_BYTES {
-        print_refusal(heap, &mut out, Refusal::LineNotLegal(MOST_BYTES as u64))?;
-        out.push_str("\n")?;
+        writeln!(out, "{}", Refusal::LineNotLegal(MOST_BYTES as u64))?;
         return Ok(out);
     }
     let mut table = Plan::new(0).init(Rows {
@@ -78,6 +66,6 @@ pub fn transcribe(heap: Global, input: &[u8]) -> Result<String, AllocError>
         values: InlineRow::filled(0),
         slots: InlineRow::filled(0),
     });
-    carry_out_lines(heap, &mut out, &mut table, input)?;
+    carry_out_lines(&mut out, &mut table, input)?;
     Ok(out)
 }

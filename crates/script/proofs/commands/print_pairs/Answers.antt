@@ -1,25 +1,56 @@
-use Rattle.std.proofs.Common.{string_bytes, refl, ap, ◌∙◌}
+use Rattle.std.proofs.Common.{ℕ, ◌-◌, None, string_bytes, Option, sym, ap, ◌∙◌, subst, arith}
+use Rattle.std.specs.Result.{result_unwrap_or}
 use Rattle.std.proofs.lemmas.Result.{IfOk-weaker}
+use Rattle.model.specs.Checks.{get_cells}
+use Rattle.model.specs.Layouts.{capacity}
+use Rattle.model.specs.Sound.{Means}
 use Rattle.model.specs.Tables.{step_answer}
-use Rattle.text.proofs.Ends.{pushed_when_made}
-use Rattle.script.proofs.Pairs.{pairs_first, pairs_dash}
+use Rattle.model.proofs.Steps.{first_below, first_from}
+use Rattle.script.proofs.Pairs.{pairs_first, pairs_dash, pairs_step, pairs_end}
 use Rattle.script.proofs.commands.print_pairs.Goals as goal
 
-pub returns-in_ok-print_pair-in-Some : goal.returns-in_ok-print_pair-in-Some
-returns-in_ok-print_pair-in-Some g c t h =
-    let step = c.in-Some.ensures in
-    let met = step.means t h in
-    IfOk-weaker c.print_more_pairs.result _ _
-    (λ u done. (
-      pairs_first t 0 _ (c.in-Some.key, c.in-Some.value) (string_bytes c.args.out.now) _ _
-          (met.0 ∙ ap (step_answer t) c.new-cursor.ensures) step.after c.in_ok-print_pair-in-Some.ensures done.0,
-      done.1,
-    ))
-    (c.print_more_pairs.ensures t met.1)
+pub loop-key-init : goal.loop-key-init
+loop-key-init g c =
+    let step = c.in-Some.ensures in (
+      step.same,
+      λ t h.
+          pairs_first t 0 _ (c.in-Some.key, c.in-Some.value) (string_bytes c.args.out.now) _
+          ((step.means t h).0 ∙ ap (step_answer t) c.new-cursor.ensures) step.after c.in_ok-write.ensures.bytes,
+    )
 
-pub returns-in-None : goal.returns-in-None
-returns-in-None g c t h =
-    let met = c.in-None.ensures.means t h in
-    IfOk-weaker c.push_str.result _ _
+-- the cursor goes on to a key that is not past the table
+pub loop-key-smaller : goal.loop-key-smaller
+loop-key-smaller g c =
+    let l = g.T.SlotMap.layout c.loop-key.table in
+    let p = c.loop-key.cursor.key in
+    let step = c.in-Some-next.ensures in
+    let held : ℕ → Option ℕ = λ k. result_unwrap_or (get_cells l k) None in
+    let below = first_below held p (capacity l - p) (c.in-Some-next.key, c.in-Some-next.value) (sym step.value) in
+    let from = first_from held p (capacity l - p) (c.in-Some-next.key, c.in-Some-next.value) (sym step.value) in
+    omega (arith, below, from, step.after, ap capacity c.loop-key.invariant.0, ap capacity c.in-Some.ensures.same)
+
+pub loop-key-preserved : goal.loop-key-preserved
+loop-key-preserved g c =
+    let step = c.in-Some-next.ensures in
+    let inv = c.loop-key.invariant in (
+      step.same ∙ inv.0,
+      λ t h.
+          pairs_step t c.loop-key.cursor.key _ (c.in-Some-next.key, c.in-Some-next.value) (string_bytes c.loop-key.out) _ _
+          (step.means t (subst (λ n. Means n t) (sym inv.0) h)).0 step.after c.in_ok-write-2.ensures.bytes (inv.1 t h),
+    )
+
+pub returns-in_default : goal.returns-in_default
+returns-in_default g c t h =
+    let met = c.in_default.ensures.means t h in
+    IfOk-weaker c.write.result _ _
     (λ u done. (pairs_dash t 0 (string_bytes c.args.out.now) _ (met.0 ∙ ap (step_answer t) c.new-cursor.ensures) done, met.1))
-    (pushed_when_made c.push_str.result (string_bytes c.args.out.now) _ _ _ refl c.push_str.ensures.bytes)
+    c.write.ensures.bytes
+
+pub returns : goal.returns
+returns g c t h =
+    let step = c.in_default-next.ensures in
+    let inv = c.loop-key.invariant in
+    let m = subst (λ n. Means n t) (sym inv.0) h in (
+      pairs_end t c.loop-key.cursor.key _ _ (step.means t m).0 (inv.1 t h),
+      (step.means t m).1,
+    )
