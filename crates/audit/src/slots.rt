@@ -35,6 +35,7 @@ fn mark_slots<R: Row<Item = u32>>(
     ensures value { MatchBool result (Marked marks.old marks.new capacity (ring (R.Row.cells row.old) capacity first) places slots) (Apart marks.old capacity (ring (R.Row.cells row.old) capacity first) places slots → ⊥) }
     ensures kept { Kept R.Row row.old row.new }
 {
+    // A chain's closure would change the row and the marks, and then nothing is known of them after it.
     let mut marked = 0;
     for i in 0..places {
         let slot = cell_or(row, (first + i) % capacity, NONE);

@@ -82,6 +82,8 @@ fn stands<X: Row<Item = u32>, L: Row<Item = FreeListEntry>, D: Row, Q: Row<Item 
     slots_stand(index, slots, registers, marks)
 }
 
+// Four rows one by one, since a table lends its own fields.
+//
 // Audits a table by its registers and rows: accepts them where they stand, and refuses them
 // where they do not. Nothing changes.
 pub fn audit<X: Row<Item = u32>, L: Row<Item = FreeListEntry>, D: Row, Q: Row<Item = u32>>(
@@ -97,6 +99,7 @@ pub fn audit<X: Row<Item = u32>, L: Row<Item = FreeListEntry>, D: Row, Q: Row<It
     ensures values { Kept D.Row values.old values.new }
     ensures slots { Kept Q.Row slots.old slots.new }
 {
+    // A byte for each slot that there can be: there is no heap.
     let mut marks = [false; 65535];
     if stands(index, links, values, slots, registers, &mut marks) {
         Ok(())

@@ -20,6 +20,7 @@ pub struct MetaSlotMap<
     pub(crate) idx_to_data_free_list: L,
     pub(crate) data: D,
     pub(crate) data_next_free_index: MetaQueue<Q>,
+    // a key, or `NONE` as in the cells
     pub(crate) idx_to_data_free_list_head: u32,
     pub(crate) len: u32,
 }

@@ -1,4 +1,5 @@
-// The plain numbers: a byte, a number and a deadline.
+// The plain numbers: a byte, a number and a deadline. An impl each, since one for all number types would meet
+// those of other kinds.
 ghost use Rattle.codes.specs.Little.{little_bytes, little_at};
 
 use crate::coded::Coded;

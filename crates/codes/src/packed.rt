@@ -38,6 +38,7 @@ fn gather<A: ByteArray, B: Row<Item = u8>>(bytes: &mut B, at: usize) -> A
     ensures beside { B.Row.outside bytes.new ≡ B.Row.outside bytes.old }
 {
     let mut string = A::zeros();
+    // Places, since a row has no iterator: the next place may lie anywhere below it.
     for i in 0..A::size() {
         match bytes.read(at + i) {
             Ok(byte) => string.put(i, byte),

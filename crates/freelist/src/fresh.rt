@@ -14,7 +14,8 @@ fn fresh_link(key: u32, capacity: u32) -> FreeListEntry
     FreeListEntry { previous, next }
 }
 
-// Each key stands in the free list, in order.
+// Each key stands in the free list, in order. A loop of its own: a function from keys to cells, shared with the
+// index row's, would be public and require that the closure may be called.
 pub fn link_all<L: Row<Item = FreeListEntry>>(links: &mut L, capacity: u32)
     ensures after { L.Row.cells links.new ≡ written (fresh_link capacity) capacity (L.Row.cells links.old) }
     ensures beside { L.Row.outside links.new ≡ L.Row.outside links.old }

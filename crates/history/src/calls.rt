@@ -5,7 +5,7 @@ ghost use Rattle.history.specs.Said.{said};
 use std::fmt;
 
 // A call of a table that holds values of kind `V`. A step is that of a cursor which stands at
-// the given place.
+// the given place. Calls are values and no closures, since a history is a list of them.
 #[derive(Clone, Copy, PartialEq, Eq, Debug)]
 pub enum Call<V> {
     Insert(V),

@@ -37,7 +37,8 @@ pub enum Refusal {
 }
 
 impl Refusal {
-    // The number that stands for this refusal wherever it is printed or compared.
+    // The number that stands for this refusal wherever it is printed or compared. A method, since
+    // `u32::from(refusal)` would not say which number.
     pub fn number(self) -> u32
         ensures { result ≡ (told self).0 }
     {

@@ -5,7 +5,7 @@ use crate::row::Row;
 use crate::slice::{element, store};
 use refusal::Refusal;
 
-// Sixty-four cells of any plain kind.
+// Sixty-four cells of any plain kind: an array, since there is no heap.
 #[derive(Clone, Copy)]
 pub struct InlineRow<T> {
     cells: [T; 64],

@@ -18,6 +18,7 @@ const MOST_DIGITS: usize = 10;
 fn leading_number(text: &[u8]) -> Option<(u32, usize)>
     ensures { MatchOption result (NoneLeads text.now) (λ p. Leads text.now p.0 p.1) }
 {
+    // Number and digits grow together; in a fold over pairs the end of the digits would be one more case.
     let mut number: u32 = 0;
     let mut digits = 0;
     for byte in text.iter().take(MOST_DIGITS) {
@@ -71,7 +72,8 @@ impl Rest<'_> {
     }
 }
 
-// The command that a line writes; or else how much of the line begins a legal line.
+// The command that a line writes; or else how much of the line begins a legal line. The error is that length
+// and no code.
 pub fn scan(line: &[u8]) -> Result<Command, usize>
     ensures value { result ≡ scanned line.now }
     ensures legal { MatchResult result (λ c. command_of line.now ≡ Some c) (λ n. (Legal line.now → ⊥) × Shares line.now n) }

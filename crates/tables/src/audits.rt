@@ -1,7 +1,7 @@
 // The audit, on cells that stand and on cells that do not.
 use audit::{Registers, audit};
 use refusal::Refusal;
-use rows::{FreeListEntry, NONE, SliceRow};
+use rows::{FreeListEntry, NO_LINK, NONE, SliceRow};
 
 // Audits a table of three keys: key 1 holds slot 0, and keys 2 and 0 stand in the free list.
 fn audited(
@@ -16,10 +16,7 @@ fn audited(
             previous: 2,
             next: NONE,
         },
-        FreeListEntry {
-            previous: NONE,
-            next: NONE,
-        },
+        NO_LINK,
         first,
     ];
     let mut values = [10, 20, 30];

@@ -1,7 +1,7 @@
 // Slice rows, inline rows and windows.
 use layers::store_number;
 use refusal::Refusal;
-use rows::{FreeListEntry, InlineRow, NONE, Row, SliceRow, WindowRow};
+use rows::{FreeListEntry, InlineRow, NO_LINK, NONE, Row, SliceRow, WindowRow};
 use std::test::Fail;
 
 #[test]
@@ -30,10 +30,7 @@ fn the_callers_slice_holds_the_cells(rt: HostRuntime) {
 
 #[test]
 fn inline_row_of_link_pairs(rt: HostRuntime) {
-    let end = FreeListEntry {
-        previous: NONE,
-        next: NONE,
-    };
+    let end = NO_LINK;
     let first = FreeListEntry {
         previous: NONE,
         next: 1,
@@ -93,10 +90,7 @@ fn window_of_a_window(rt: HostRuntime) {
 
 #[test]
 fn link_pairs_changed_in_the_callers_slice(rt: HostRuntime) -> Result<(), Fail> {
-    let end = FreeListEntry {
-        previous: NONE,
-        next: NONE,
-    };
+    let end = NO_LINK;
     let mut links = [end; 1];
     let mut row = SliceRow::new(&mut links);
     assert_eq!(rt; row.count(), 1);
