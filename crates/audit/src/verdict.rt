@@ -82,10 +82,8 @@ fn stands<X: Row<Item = u32>, L: Row<Item = FreeListEntry>, D: Row, Q: Row<Item 
     slots_stand(index, slots, registers, marks)
 }
 
-// Four rows one by one, since a table lends its own fields.
-//
 // Audits a table by its registers and rows: accepts them where they stand, and refuses them
-// where they do not. Nothing changes.
+// where they do not. Nothing changes. Four rows one by one, since a table lends its own fields.
 pub fn audit<X: Row<Item = u32>, L: Row<Item = FreeListEntry>, D: Row, Q: Row<Item = u32>>(
     index: &mut X,
     links: &mut L,
