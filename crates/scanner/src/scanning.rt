@@ -92,6 +92,5 @@ pub fn scan(line: &[u8]) -> Result<Command, usize>
         Kind::Len => Command::Len,
         Kind::List => Command::List,
     };
-    rest.finish()?;
-    Ok(command)
+    rest.finish().map(|()| command)
 }

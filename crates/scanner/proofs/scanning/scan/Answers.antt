@@ -70,39 +70,6 @@ returns-in_err-number-in-Replace-2 c =
     told_stop c.args.line.now _ _ c.from_residual-in_err-number-in-Replace-2.ensures.1
     (second_stops c.args.line.now Replace is _ _ first.read (omega arith) _ (rw first.line at c.in_err-number-in-Replace-2.ensures.read))
 
--- the line goes on
-pub returns-in_err-finish : goal.returns-in_err-finish
-returns-in_err-finish c =
-    let line = c.args.line.now in
-    let is : kind_of (get_or line 0 0) ≡ Some c.in_ok-kind.kind = grind arith in
-    let read : (c.match-kind.rest.line.now ≡ line) × Written line c.match-kind.rest.end c.match-kind.command
-    = elim c.match-kind.branch [
-      | in-Make+in_ok-number-in-Make w ↦
-          let first = w.in_ok-number-in-Make.ensures in
-          rw (w.rest-is, w.command-is) (first.line, one_written line Make (is ∙ ap Some w.in-Make.is) _ _ first.read refl _ refl)
-      | in-Insert+in_ok-number-in-Insert w ↦
-          let first = w.in_ok-number-in-Insert.ensures in
-          rw (w.rest-is, w.command-is) (first.line, one_written line Insert (is ∙ ap Some w.in-Insert.is) _ _ first.read refl _ refl)
-      | in-Remove+in_ok-number-in-Remove w ↦
-          let first = w.in_ok-number-in-Remove.ensures in
-          rw (w.rest-is, w.command-is) (first.line, one_written line Remove (is ∙ ap Some w.in-Remove.is) _ _ first.read refl _ refl)
-      | in-Get+in_ok-number-in-Get w ↦
-          let first = w.in_ok-number-in-Get.ensures in
-          rw (w.rest-is, w.command-is) (first.line, one_written line Get (is ∙ ap Some w.in-Get.is) _ _ first.read refl _ refl)
-      | in-InsertAt+in_ok-number-in-InsertAt+in_ok-number-in-InsertAt-2 w ↦
-          let first = w.in_ok-number-in-InsertAt.ensures in
-          let second = w.in_ok-number-in-InsertAt-2.ensures in
-          rw (w.rest-is, w.command-is) (second.line ∙ first.line, two_written line InsertAt (is ∙ ap Some w.in-InsertAt.is) _ _ first.read refl _ _ (rw first.line at second.read) _ refl)
-      | in-Replace+in_ok-number-in-Replace+in_ok-number-in-Replace-2 w ↦
-          let first = w.in_ok-number-in-Replace.ensures in
-          let second = w.in_ok-number-in-Replace-2.ensures in
-          rw (w.rest-is, w.command-is) (second.line ∙ first.line, two_written line Replace (is ∙ ap Some w.in-Replace.is) _ _ first.read refl _ _ (rw first.line at second.read) _ refl)
-      | in-NextFreeKey w ↦ rw (w.rest-is, w.command-is) (refl, plain_written line NextFreeKey (is ∙ ap Some w.in-NextFreeKey.is) refl _ refl)
-      | in-Len w ↦ rw (w.rest-is, w.command-is) (refl, plain_written line Len (is ∙ ap Some w.in-Len.is) refl _ refl)
-      | in-List w ↦ rw (w.rest-is, w.command-is) (refl, plain_written line Listing (is ∙ ap Some w.in-List.is) refl _ refl)
-    ] in
-    told_stop line _ _ c.from_residual-in_err-finish.ensures.1 (read.1.goes_on (omega (arith, ap length read.0, c.in_err-finish.ensures)) ∙ ap Err (sym c.in_err-finish.ensures.0))
-
 pub returns : goal.returns
 returns c =
     let line = c.args.line.now in
@@ -133,4 +100,6 @@ returns c =
       | in-Len w ↦ rw (w.rest-is, w.command-is) (refl, plain_written line Len (is ∙ ap Some w.in-Len.is) refl _ refl)
       | in-List w ↦ rw (w.rest-is, w.command-is) (refl, plain_written line Listing (is ∙ ap Some w.in-List.is) refl _ refl)
     ] in
-    told line _ (read.1.ends (omega (arith, ap length read.0, c.in_ok-finish.ensures)))
+    let on = rw read.0 at c.finish.ensures in
+    let answer : scanned line ≡ c.map.result = grind (arith, on) in
+    told line _ answer
