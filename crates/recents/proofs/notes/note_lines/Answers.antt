@@ -1,28 +1,13 @@
-use Rattle.std.proofs.Common.{◌+◌, ◌++◌, length, string_bytes, sym, refl, ap, ◌∙◌, arith}
+use Rattle.std.proofs.Common.{◌+◌, ◌++◌, length, string_bytes, sym, ap, ◌∙◌, arith}
 use Rattle.std.proofs.lemmas.Bool.{ltb-true}
 use Rattle.containers.specs.Bounded.{latest}
 use Rattle.containers.specs.Queues.{queue, contents}
 use Rattle.containers.proofs.Rounds.{length_contents}
 use Rattle.text.specs.Lines.{lines}
 use Rattle.recents.specs.Recent.{numbers, complaints}
-use Rattle.recents.proofs.Steps.{held_more, said_more, held_all, said_all}
+use Rattle.recents.proofs.Steps.{held_more, said_more, held_all}
 use Rattle.text.proofs.Ends.{no_lines}
 use Rattle.recents.proofs.notes.note_lines.Goals as goal
-
-pub loop-line-init : goal.loop-line-init
-loop-line-init g c =
-    let q = queue c.args.queue.now in (
-      refl,
-      omega (arith, ap length c.new-reader.ensures),
-      ap (λ text. latest q.capacity (contents q ++ numbers (lines text))) c.new-reader.ensures,
-      ap (λ text. string_bytes c.args.err.now ++ complaints 1 (lines text)) c.new-reader.ensures,
-    )
-
-pub overflow_add-place : goal.overflow_add-place
-overflow_add-place g c = omega (arith, ltb-true 0 (length c.loop-line.reader.rest.now) (sym c.in-Some.ensures.test))
-
-pub loop-line-smaller : goal.loop-line-smaller
-loop-line-smaller g c = omega (arith, ltb-true 0 (length c.loop-line.reader.rest.now) (sym c.in-Some.ensures.test), c.in-Some.ensures.shorter)
 
 pub loop-line-preserved : goal.loop-line-preserved
 loop-line-preserved g c =
@@ -44,12 +29,9 @@ loop-line-preserved g c =
           ∙ c.loop-line.invariant.3,
     )
 
-pub returns : goal.returns
-returns g c =
+pub returns-clause-held : goal.returns-clause-held
+returns-clause-held g c =
     let q = queue c.loop-line.queue in
     let rest = no_lines c.loop-line.reader.rest.now c.in_default.ensures.test in
     let sized = length_contents q c.loop-line.queue.position.within c.loop-line.queue.backed in
-    record {
-      held = sym (held_all q.capacity (contents q) (lines c.loop-line.reader.rest.now) (omega arith) rest) ∙ c.loop-line.invariant.2;
-      err = sym (said_all (string_bytes c.loop-line.err) (c.loop-line.place + 1) (lines c.loop-line.reader.rest.now) rest) ∙ c.loop-line.invariant.3;
-    }
+    sym (held_all q.capacity (contents q) (lines c.loop-line.reader.rest.now) (omega arith) rest) ∙ c.loop-line.invariant.2
