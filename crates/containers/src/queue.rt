@@ -10,7 +10,7 @@ use crate::position::Position;
 use refusal::Refusal;
 use rows::Row;
 
-// First in, first out, round a ring of places.
+// First in, first out, round a ring of places. The row has a cell for each place.
 #[derive(Drop)]
 pub struct MetaQueue<R: Row> {
     row: R,

@@ -10,7 +10,7 @@ use crate::extent::Extent;
 use refusal::Refusal;
 use rows::Row;
 
-// Elements in a row's first cells, in order.
+// Elements in a row's first cells, in order. The row has a cell for each place.
 #[derive(Drop)]
 pub struct MetaVec<R: Row> {
     row: R,
