@@ -1,4 +1,5 @@
-// The calls of a table by its cells, whatever those are.
+// The calls of a table by its cells, whatever those are: beside the trait's methods, which add what they mean.
+// With the code in the methods, tried, each way out owes its meaning anew, some twenty goals.
 #![tactic(auto)]
 
 mod calls;

@@ -17,7 +17,7 @@ pub(crate) fn clear_index<X: Row<Item = u32>>(index: &mut X, capacity: u32)
     }
 }
 
-// A queue with a place for each of `capacity` slots, as far as there are cells; all its slots wait, in order.
+// A queue of at most `capacity` places, one for each cell, in which all slots wait, in order.
 pub(crate) fn queue_all<Q: Row<Item = u32>>(slots: Q, capacity: u32) -> MetaQueue<Q>
     ensures capacity { (state result).capacity ≡ min (min capacity 65535) (length (Q.Row.cells slots)) }
     ensures after { state result ≡ slots_to (state result).capacity (state result).capacity (Q.Row.cells slots) }

@@ -29,6 +29,9 @@ pub trait Steps {
 
     ghost stored: { Self → Stored };
 
+    // `len_impl`, `capacity_impl` and `audit_impl`, names of the Rust, are told by the cells; the trait with the
+    // calls adds what they mean, so that steps are out of reach where only calls are.
+
     // How many keys hold something.
     fn len_impl(&self) -> u32
         ensures { result ≡ (layout self.now).len };

@@ -2,16 +2,12 @@
 use Rattle.std.proofs.Common.{◌≡◌, ℕ, ◌+◌, ◌-◌, ◌*◌, ◌/◌, ◌<◌, ◌≤◌, List, ◌++◌, length, get_or, take, drop, set, replicate, Ok, sym, ap, ◌∙◌, ⊎_elim, mul-le-mul_right, add-mul, one-mul, zero-add, div-mul-le_self, arith}
 use lib.Seq.{paste}
 use Rattle.std.proofs.lemmas.List.FromFn.{length-map-range_with_len, get_or-map-range_with_len}
-use Rattle.std.proofs.lemmas.List.Edits.{paste_none, paste_more, paste_all, length-paste, drop-paste}
-use Rattle.std.proofs.lemmas.List.{append-nil, drop_all, drop_at, drop-drop, drop-take, get_or-set_same, get_or-set_other, length-replicate, length-set, length-take-le, same_lists, take-append-le, take_at, take-take}
+use Rattle.std.proofs.lemmas.List.Edits.{paste_more, paste_all, length-paste, drop-paste}
+use Rattle.std.proofs.lemmas.List.{drop_at, drop-drop, drop-take, get_or-set_same, get_or-set_other, length-replicate, length-set, length-take-le, same_lists, take-append-le, take_at, take-take}
 use Rattle.std.proofs.lemmas.Bool.{cases_eq, cases_lt}
 use Rattle.rows.specs.Cells.{read_at, window}
 use Rattle.rows.proofs.Cells.{read_within}
 use Rattle.codes.specs.Packed.{packed, behind}
-
--- bytes gathered one by one into a string of zeros
-pub gather_none : (s : List ℕ) (n : ℕ) → replicate n 0 ≡ paste (replicate n 0) 0 s 0
-gather_none s n = paste_none (replicate n 0) 0 s
 
 pub gather_more : (s : List ℕ) (n i b : ℕ) → i < n → length s ≡ n → b ≡ get_or s i 0 → set (paste (replicate n 0) 0 s i) i b ≡ paste (replicate n 0) 0 s (i + 1)
 gather_more s n i b h e g =
@@ -19,12 +15,6 @@ gather_more s n i b h e g =
     ap (λ b. set (paste (replicate n 0) 0 s i) i b) g
     ∙ ap (λ k. set (paste (replicate n 0) 0 s i) k (get_or s i 0)) (sym (zero-add i))
     ∙ step
-
-pub gather_all : (s : List ℕ) (n : ℕ) → length s ≡ n → paste (replicate n 0) 0 s n ≡ s
-gather_all s n e =
-    paste_all (replicate n 0) 0 s n (sym e)
-    ∙ ap (λ t. s ++ t) (drop_all (0 + n) (replicate n 0) (simp length-replicate (omega arith)))
-    ∙ append-nil s
 
 -- group i lies within the bytes, and within the whole groups
 pub group_within : (n w i : ℕ) → 0 < w → i < n / w → i * w + w ≤ n / w * w

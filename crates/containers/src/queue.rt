@@ -51,7 +51,7 @@ impl<R: Row> MetaQueue<R> {
     // The element `index` from the oldest; refused at or past the length.
     pub fn get(&mut self, index: usize) -> Result<R::Item, Refusal>
         ensures value { result ≡ get_answer (queue self.old) index }
-        ensures same { (queue self.new) ≡ (queue self.old) }
+        ensures same { queue self.new ≡ queue self.old }
         ensures means { Means contents Backed (queue self.old) result (queue self.new) (λ xs. ok_or (slice_get xs index) PlacePastLength) (λ xs. xs) }
         ensures untouched { R.Row.stored self.new.row ≡ R.Row.stored self.old.row }
         ensures beside { R.Row.outside self.new.row ≡ R.Row.outside self.old.row }
@@ -103,7 +103,7 @@ impl<R: Row> MetaQueue<R> {
 
     // Lets all elements go; `start` stays where it is.
     pub fn clear(&mut self)
-        ensures after { (queue self.new) ≡ cleared (queue self.old) }
+        ensures after { queue self.new ≡ cleared (queue self.old) }
         ensures holds { contents (queue self.new) ≡ [] }
         ensures beside { R.Row.outside self.new.row ≡ R.Row.outside self.old.row }
     {
@@ -113,7 +113,7 @@ impl<R: Row> MetaQueue<R> {
     // The oldest element, which stays.
     pub fn peek(&mut self) -> Option<R::Item>
         ensures value { Ok result ≡ oldest_answer (queue self.old) }
-        ensures same { (queue self.new) ≡ (queue self.old) }
+        ensures same { queue self.new ≡ queue self.old }
         ensures means { Means contents Backed (queue self.old) result (queue self.new) (λ xs. slice_get xs 0) (λ xs. xs) }
         ensures untouched { R.Row.stored self.new.row ≡ R.Row.stored self.old.row }
         ensures beside { R.Row.outside self.new.row ≡ R.Row.outside self.old.row }
@@ -124,7 +124,7 @@ impl<R: Row> MetaQueue<R> {
     // Takes the oldest element out.
     pub fn pop(&mut self) -> Option<R::Item>
         ensures value { Ok result ≡ oldest_answer (queue self.old) }
-        ensures after { (queue self.new) ≡ popped (queue self.old) }
+        ensures after { queue self.new ≡ popped (queue self.old) }
         ensures means { Means contents Backed (queue self.old) result (queue self.new) (λ xs. slice_get xs 0) (drop 1) }
         ensures untouched { R.Row.stored self.new.row ≡ R.Row.stored self.old.row }
         ensures beside { R.Row.outside self.new.row ≡ R.Row.outside self.old.row }
@@ -137,7 +137,7 @@ impl<R: Row> MetaQueue<R> {
     // Adds `value` behind the newest element; refused where the queue is full.
     pub fn push(&mut self, value: R::Item) -> Result<(), Refusal>
         ensures value { result ≡ push_answer (queue self.old) }
-        ensures after { (queue self.new) ≡ (if is_ok result then pushed (queue self.old) value else queue self.old) }
+        ensures after { queue self.new ≡ (if is_ok result then pushed (queue self.old) value else queue self.old) }
         ensures means { Means contents Backed (queue self.old) result (queue self.new) (append_answer (queue self.old).capacity) (appended (queue self.old).capacity value) }
         ensures kept { is_ok result ≡ false → R.Row.stored self.new.row ≡ R.Row.stored self.old.row }
         ensures beside { R.Row.outside self.new.row ≡ R.Row.outside self.old.row }
@@ -154,7 +154,7 @@ impl<R: Row> MetaQueue<R> {
     // is answered. Refused where there is no cell at all.
     pub fn push_with_overflow(&mut self, value: R::Item) -> Result<Option<R::Item>, Refusal>
         ensures value { result ≡ overflow_answer (queue self.old) }
-        ensures after { (queue self.new) ≡ (if is_ok result then overflowed (queue self.old) value else queue self.old) }
+        ensures after { queue self.new ≡ (if is_ok result then overflowed (queue self.old) value else queue self.old) }
         ensures means { Means contents Backed (queue self.old) result (queue self.new) (displaced (queue self.old).capacity) (λ xs. latest (queue self.old).capacity (xs ++ (value ∷ []))) }
         ensures kept { is_ok result ≡ false → R.Row.stored self.new.row ≡ R.Row.stored self.old.row }
         ensures beside { R.Row.outside self.new.row ≡ R.Row.outside self.old.row }

@@ -73,7 +73,7 @@ impl<R: Row> MetaVec<R> {
     // Adds `value` behind the last element; refused where the vector is full.
     pub fn push(&mut self, value: R::Item) -> Result<(), Refusal>
         ensures value { result ≡ push_answer (vector self.old) }
-        ensures after { (vector self.new) ≡ (if is_ok result then with (vector self.old) ((vector self.old).len + 1) (slice_set (vector self.old).cells (vector self.old).len value) else vector self.old) }
+        ensures after { vector self.new ≡ (if is_ok result then with (vector self.old) ((vector self.old).len + 1) (slice_set (vector self.old).cells (vector self.old).len value) else vector self.old) }
         ensures means { Means contents Backed (vector self.old) result (vector self.new) (append_answer (vector self.old).capacity) (appended (vector self.old).capacity value) }
         ensures kept { is_ok result ≡ false → R.Row.stored self.new.row ≡ R.Row.stored self.old.row }
         ensures beside { R.Row.outside self.new.row ≡ R.Row.outside self.old.row }
@@ -89,7 +89,7 @@ impl<R: Row> MetaVec<R> {
 
     // Lets all elements go.
     pub fn clear(&mut self)
-        ensures after { (vector self.new) ≡ with (vector self.old) 0 (vector self.old).cells }
+        ensures after { vector self.new ≡ with (vector self.old) 0 (vector self.old).cells }
         ensures holds { contents (vector self.new) ≡ [] }
         ensures beside { R.Row.outside self.new.row ≡ R.Row.outside self.old.row }
     {
@@ -99,7 +99,7 @@ impl<R: Row> MetaVec<R> {
     // Takes the last element out.
     pub fn pop(&mut self) -> Option<R::Item>
         ensures value { Ok result ≡ pop_answer (vector self.old) }
-        ensures after { (vector self.new) ≡ with (vector self.old) ((vector self.old).len - 1) (vector self.old).cells }
+        ensures after { vector self.new ≡ with (vector self.old) ((vector self.old).len - 1) (vector self.old).cells }
         ensures means { Means contents Backed (vector self.old) result (vector self.new) (λ xs. slice_get xs (length xs - 1)) (λ xs. take (length xs - 1) xs) }
         ensures untouched { R.Row.stored self.new.row ≡ R.Row.stored self.old.row }
         ensures beside { R.Row.outside self.new.row ≡ R.Row.outside self.old.row }
@@ -113,7 +113,7 @@ impl<R: Row> MetaVec<R> {
     // The element at `place`; refused at or past the length.
     pub fn read(&mut self, place: usize) -> Result<R::Item, Refusal>
         ensures value { result ≡ read_answer (vector self.old) place }
-        ensures same { (vector self.new) ≡ (vector self.old) }
+        ensures same { vector self.new ≡ vector self.old }
         ensures means { Means contents Backed (vector self.old) result (vector self.new) (λ xs. ok_or (slice_get xs place) PlacePastLength) (λ xs. xs) }
         ensures untouched { R.Row.stored self.new.row ≡ R.Row.stored self.old.row }
         ensures beside { R.Row.outside self.new.row ≡ R.Row.outside self.old.row }
@@ -128,7 +128,7 @@ impl<R: Row> MetaVec<R> {
     // Stores `value` in the element at `place`; refused at or past the length.
     pub fn write(&mut self, place: usize, value: R::Item) -> Result<(), Refusal>
         ensures value { result ≡ write_answer (vector self.old) place }
-        ensures after { (vector self.new) ≡ with (vector self.old) (vector self.old).len (if is_ok result then slice_set (vector self.old).cells place value else (vector self.old).cells) }
+        ensures after { vector self.new ≡ with (vector self.old) (vector self.old).len (if is_ok result then slice_set (vector self.old).cells place value else (vector self.old).cells) }
         ensures means { Means contents Backed (vector self.old) result (vector self.new) (λ xs. (if nat_lt place (length xs) then Ok tt else Err PlacePastLength)) (λ xs. slice_set xs place value) }
         ensures kept { is_ok result ≡ false → R.Row.stored self.new.row ≡ R.Row.stored self.old.row }
         ensures beside { R.Row.outside self.new.row ≡ R.Row.outside self.old.row }

@@ -1,17 +1,10 @@
 -- The steps of a fill, a replace and a remove, one after another.
-use Rattle.std.proofs.Common.{◌≡◌, ℕ, true, is_ok, Some, None, Ok, Option, sym, refl, ap, ◌∙◌, arith}
-use Rattle.std.specs.Option.{ok_or}
-use Rattle.std.specs.Result.{result_and, result_map_both}
-use Rattle.refusal.specs.declared.Refusal.TheVariants.{AuditFailed, NoPlace}
+use Rattle.std.proofs.Common.{◌≡◌, ℕ, Ok, sym, ap, ◌∙◌}
+use Rattle.std.specs.Result.{result_and}
 use Rattle.rows.specs.declared.cell.FreeListEntry.{FreeListEntry}
 use Rattle.model.specs.Layouts.{Layout, oldest_slot, claimed, given, filled}
 use Rattle.model.specs.Checks.{then, fillable, waiting, storable, store_answer, fill_answer}
 use Rattle.model.proofs.Checked.{fillable_stores, fillable_ok}
-
--- a slot that waits can be popped
-read_there : {A : Type 0} (o : Option A) (x : A) → ok_or o AuditFailed ≡ Ok x → is_ok (result_map_both Some (λ e. e) (ok_or o NoPlace)) ≡ true
-read_there None x e = let z : ◌≡◌ {A = ℕ} 0 1 = cc in absurd (omega arith)
-read_there (Some y) x e = refl
 
 -- a vacant key is filled: its value is stored, and it leaves the free list
 pub fill_steps : {V : Type 0} (l l₁ l₂ l₃ : Layout V) (k : ℕ) (v : V) (e : FreeListEntry)

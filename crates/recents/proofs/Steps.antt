@@ -1,7 +1,6 @@
 -- One line more, and one number less, over lists alone.
-use Rattle.std.proofs.Common.{◌≡◌, ℕ, ◌+◌, ◌<◌, ◌≤◌, List, [], ◌∷◌, ◌++◌, length, drop, Some, None, sym, refl, ap, ◌∙◌, arith}
+use Rattle.std.proofs.Common.{◌≡◌, ℕ, ◌+◌, ◌≤◌, List, [], ◌∷◌, ◌++◌, length, sym, ap, ◌∙◌}
 use Rattle.std.proofs.lemmas.List.{append_assoc, append-nil}
-use Rattle.std.specs.List.{slice_get, flat_map}
 use Rattle.std.specs.Option.{option_to_list}
 use Rattle.containers.specs.Bounded.{latest}
 use Rattle.containers.proofs.Latest.{latest_all, latest_latest}
@@ -29,16 +28,3 @@ said_more err err' i n n' line left rest at next e read =
 
 pub held_all : (c : ℕ) (held : List ℕ) (ls : List (List ℕ)) → length held ≤ c → ls ≡ [] → latest c (held ++ numbers ls) ≡ held
 held_all c held ls few e = ap (λ xs. latest c (held ++ numbers xs)) e ∙ ap (latest c) (append-nil held) ∙ latest_all c held few
-
--- a number taken from the front and printed
-pub first_out : (f : ℕ → List ℕ) (xs : List ℕ) (n : ℕ) → slice_get xs 0 ≡ Some n → flat_map f xs ≡ f n ++ flat_map f (drop 1 xs)
-first_out f [] n e = let z : ◌≡◌ {A = ℕ} 0 1 = cc in absurd (omega arith)
-first_out f (x ∷ xs) n e = let same : x ≡ n = cc in ap (λ y. f y ++ flat_map f xs) same
-
-pub none_left : (xs : List ℕ) → slice_get xs 0 ≡ None → xs ≡ []
-none_left [] e = refl
-none_left (x ∷ xs) e = let z : ◌≡◌ {A = ℕ} 0 1 = cc in absurd (omega arith)
-
-pub some_first : (xs : List ℕ) (n : ℕ) → slice_get xs 0 ≡ Some n → 0 < length xs
-some_first [] n e = let z : ◌≡◌ {A = ℕ} 0 1 = cc in absurd (omega arith)
-some_first (x ∷ xs) n e = omega arith

@@ -16,7 +16,7 @@ pub fn perform<R: Row<Item = u32>>(
     call: QueueCall,
 ) -> Result<Answer<u32>, Refusal>
     ensures value { result ≡ cells_answer (state queue.old) call }
-    ensures after { (state queue.new) ≡ cells_after (state queue.old) call }
+    ensures after { state queue.new ≡ cells_after (state queue.old) call }
     ensures means { Means contents Backed (state queue.old) result (state queue.new) (λ xs. answer_to (state queue.old).capacity xs call) (λ xs. held_after (state queue.old).capacity xs call) }
     ensures beside { R.Row.outside queue.new.row ≡ R.Row.outside queue.old.row }
 {
