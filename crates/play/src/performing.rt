@@ -42,6 +42,7 @@ pub fn run<T: SlotMap>(
     ensures reached { (C : ℕ) (h : List (Event T.Value)) → Reached C h (T.SlotMap.layout table.old) → Reached C (h ++ paired (take result calls.now) (take result answers.new)) (T.SlotMap.layout table.new) }
 {
     let count = calls.len().min(answers.len());
+    // By place and not by `zip`, tried: a proof does not learn what the places of an `iter_mut` hold after a `zip`.
     for (i, answer) in answers[..count].iter_mut().enumerate() {
         *answer = perform(table, calls[i]);
     }

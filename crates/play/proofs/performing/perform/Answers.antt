@@ -7,19 +7,18 @@ use Rattle.history.specs.Promise.{Reached}
 use Rattle.history.proofs.Made.{call_follows, call_beyond, reached_made}
 use Rattle.play.proofs.performing.perform.Goals as goal
 
-pub returns : goal.returns
-returns g c =
+pub returns-clause-beyond : goal.returns-clause-beyond
+returns-clause-beyond g c =
     let l = g.T.SlotMap.layout c.args.table.now in
+    subst (SameBeyond l) (sym c.make.ensures.after) (call_beyond l c.args.call (g.met.T.SlotMap.legal c.args.table.now))
+
+pub returns-clause-means : goal.returns-clause-means
+returns-clause-means g c t h =
+    let follows = call_follows (g.T.SlotMap.layout c.args.table.now) c.args.call t h in
+    (c.make.ensures.value ∙ follows.0, subst (λ n. Means n (after t c.args.call)) (sym c.make.ensures.after) follows.1)
+
+pub returns-clause-reached : goal.returns-clause-reached
+returns-clause-reached g c C h r =
     let call = c.args.call in
-    let made = c.make.ensures in
-    record {
-      value = made.value;
-      after = made.after;
-      beyond = subst (SameBeyond l) (sym made.after) (call_beyond l call (g.met.T.SlotMap.legal c.args.table.now));
-      kept = made.kept;
-      beside = made.beside;
-      means = λ t h. let follows = call_follows l call t h in (made.value ∙ follows.0, subst (λ n. Means n (after t call)) (sym made.after) follows.1);
-      reached = λ C h r.
-          subst (λ a. Reached C (h ++ ((record { call = call; answer = a }) ∷ [])) (g.T.SlotMap.layout c.make.new.table)) (sym made.value)
-          (subst (Reached C (h ++ ((record { call = call; answer = _ }) ∷ []))) (sym made.after) (reached_made C h l call r));
-    }
+    subst (λ a. Reached C (h ++ ((record { call = call; answer = a }) ∷ [])) (g.T.SlotMap.layout c.make.new.table)) (sym c.make.ensures.value)
+    (subst (Reached C (h ++ ((record { call = call; answer = _ }) ∷ []))) (sym c.make.ensures.after) (reached_made C h (g.T.SlotMap.layout c.args.table.now) call r))

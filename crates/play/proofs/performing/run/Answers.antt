@@ -34,26 +34,27 @@ loop-i-preserved g c =
       beside = made.beside ∙ inv.beside;
     }
 
-pub returns : goal.returns
-returns g c =
+pub returns-clause-after : goal.returns-clause-after
+returns-clause-after g c =
+    let o = g.T.SlotMap.layout c.args.table.now in
+    let n = c.min-count.result in
+    let all : c.loop-i.i ≡ n = omega (arith, length-take n c.args.answers.now) in
+    c.loop-i.invariant.after ∙ ap (λ i. cells_after_all o (take i c.args.calls.now)) all
+
+pub returns-clause-value : goal.returns-clause-value
+returns-clause-value g c =
     let o = g.T.SlotMap.layout c.args.table.now in
     let calls = c.args.calls.now in
     let answers = c.args.answers.now in
     let n = c.min-count.result in
-    let inv = c.loop-i.invariant in
     let all : c.loop-i.i ≡ n = omega (arith, length-take n answers) in
-    let after = inv.after ∙ ap (λ i. cells_after_all o (take i calls)) all in
-    let value =
     ap (λ xs. xs ++ drop n answers)
-    (inv.answered
+    (c.loop-i.invariant.answered
     ∙ ap (λ xs. cells_answers o (take c.loop-i.i calls) ++ xs) (drop_all c.loop-i.i (take n answers) c.loop-i-test.false)
     ∙ append-nil (cells_answers o (take c.loop-i.i calls))
-    ∙ ap (λ i. cells_answers o (take i calls)) all) in
-    record {
-      count = c.min-count.ensures;
-      value = value;
-      after = after;
-      beyond = inv.beyond;
-      beside = inv.beside;
-      reached = λ C h r. run_reached o (g.T.SlotMap.layout c.loop-i.table) calls answers _ n C h (omega (arith, c.min-count.ensures)) after value r;
-    }
+    ∙ ap (λ i. cells_answers o (take i calls)) all)
+
+pub returns-clause-reached : goal.returns-clause-reached
+returns-clause-reached g c C h r =
+    run_reached (g.T.SlotMap.layout c.args.table.now) (g.T.SlotMap.layout c.loop-i.table) c.args.calls.now c.args.answers.now _ c.min-count.result C h
+    (omega (arith, c.min-count.ensures)) (returns-clause-after g c) (returns-clause-value g c) r
