@@ -24,20 +24,22 @@ pub struct Plan {
 // The capacity of a table over four rows: the least of what is asked for, 65,535 and the counts.
 fn capacity_over<X: Row<Item = u32>, L: Row<Item = FreeListEntry>, D: Row, Q: Row<Item = u32>>(
     asked: u32,
-    rows: &mut Rows<X, L, D, Q>,
+    index: &mut X,
+    links: &mut L,
+    values: &mut D,
+    slots: &mut Q,
 ) -> u32
-    ensures value { result ≡ least asked (length (X.Row.cells rows.old.index)) (length (L.Row.cells rows.old.links)) (length (D.Row.cells rows.old.values)) (length (Q.Row.cells rows.old.slots)) }
-    ensures index { Kept X.Row rows.old.index rows.new.index }
-    ensures links { Kept L.Row rows.old.links rows.new.links }
-    ensures values { Kept D.Row rows.old.values rows.new.values }
-    ensures slots { Kept Q.Row rows.old.slots rows.new.slots }
+    ensures value { result ≡ least asked (length (X.Row.cells index.old)) (length (L.Row.cells links.old)) (length (D.Row.cells values.old)) (length (Q.Row.cells slots.old)) }
+    ensures index { Kept X.Row index.old index.new }
+    ensures links { Kept L.Row links.old links.new }
+    ensures values { Kept D.Row values.old values.new }
+    ensures slots { Kept Q.Row slots.old slots.new }
 {
-    let shortest = rows
-        .index
+    let shortest = index
         .count()
-        .min(rows.links.count())
-        .min(rows.values.count())
-        .min(rows.slots.count());
+        .min(links.count())
+        .min(values.count())
+        .min(slots.count());
     fitting(asked, shortest)
 }
 
@@ -49,18 +51,21 @@ impl Plan {
     }
 
     // Whether these rows have a cell for each key; refused where they do not, or where more than
-    // 65,535 keys are asked for. Nothing changes.
+    // 65,535 keys are asked for. Nothing changes. Four rows one by one, since they may be on loan.
     pub fn check<X: Row<Item = u32>, L: Row<Item = FreeListEntry>, D: Row, Q: Row<Item = u32>>(
         &self,
-        rows: &mut Rows<X, L, D, Q>,
+        index: &mut X,
+        links: &mut L,
+        values: &mut D,
+        slots: &mut Q,
     ) -> Result<(), Refusal>
-        ensures value { result ≡ plan_answer self.now.capacity (length (X.Row.cells rows.old.index)) (length (L.Row.cells rows.old.links)) (length (D.Row.cells rows.old.values)) (length (Q.Row.cells rows.old.slots)) }
-        ensures index { Kept X.Row rows.old.index rows.new.index }
-        ensures links { Kept L.Row rows.old.links rows.new.links }
-        ensures values { Kept D.Row rows.old.values rows.new.values }
-        ensures slots { Kept Q.Row rows.old.slots rows.new.slots }
+        ensures value { result ≡ plan_answer self.now.capacity (length (X.Row.cells index.old)) (length (L.Row.cells links.old)) (length (D.Row.cells values.old)) (length (Q.Row.cells slots.old)) }
+        ensures index { Kept X.Row index.old index.new }
+        ensures links { Kept L.Row links.old links.new }
+        ensures values { Kept D.Row values.old values.new }
+        ensures slots { Kept Q.Row slots.old slots.new }
     {
-        let capacity = capacity_over(self.capacity, rows);
+        let capacity = capacity_over(self.capacity, index, links, values, slots);
         if self.capacity == capacity {
             Ok(())
         } else {
@@ -81,7 +86,13 @@ impl Plan {
         ensures unwritten { D.Row.stored result.«data» ≡ D.Row.stored rows.values }
         ensures outside { (X.Row.outside result.idx_to_data ≡ X.Row.outside rows.index) × ((L.Row.outside result.idx_to_data_free_list ≡ L.Row.outside rows.links) × ((D.Row.outside result.«data» ≡ D.Row.outside rows.values) × (Q.Row.outside result.data_next_free_index.row ≡ Q.Row.outside rows.slots))) }
     {
-        let capacity = capacity_over(self.capacity, &mut rows);
+        let capacity = capacity_over(
+            self.capacity,
+            &mut rows.index,
+            &mut rows.links,
+            &mut rows.values,
+            &mut rows.slots,
+        );
         clear_index(&mut rows.index, capacity);
         link_all(&mut rows.links, capacity);
         MetaSlotMap {

@@ -1,5 +1,5 @@
-// The plain numbers: a byte, a number and a deadline. An impl each, since one for all number types would meet
-// those of other kinds.
+// The plain numbers: a byte, a number and a deadline. An impl each: one for all of them needs a trait over their
+// `to_le_bytes`, and that an impl for each.
 ghost use Rattle.codes.specs.Little.{little_bytes, little_at};
 
 use crate::coded::Coded;

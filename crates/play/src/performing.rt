@@ -43,8 +43,8 @@ pub fn run<T: SlotMap>(
 {
     let count = calls.len().min(answers.len());
     // By place and not by `zip`, tried: a proof does not learn what the places of an `iter_mut` hold after a `zip`.
-    for (i, answer) in answers[..count].iter_mut().enumerate() {
-        *answer = perform(table, calls[i]);
+    for (i, call) in calls[..count].iter().enumerate() {
+        answers[i] = perform(table, *call);
     }
     count
 }

@@ -60,7 +60,12 @@ fn make_table(out: &mut String, table: &mut Keys, capacity: u32) -> Result<(), A
         slots: InlineRow::filled(0),
     };
     let plan = Plan::new(capacity);
-    match plan.check(&mut rows) {
+    match plan.check(
+        &mut rows.index,
+        &mut rows.links,
+        &mut rows.values,
+        &mut rows.slots,
+    ) {
         Ok(()) => {
             *table = plan.init(rows);
             write!(out, "ok")

@@ -16,8 +16,24 @@ fn a_plan_of_as_many_keys_as_cells(rt: HostRuntime) {
         values: InlineRow::filled(0),
         slots: InlineRow::filled(0),
     };
-    assert_eq!(rt; Plan::new(64).check(&mut rows), Ok(()));
-    assert_eq!(rt; Plan::new(65).check(&mut rows), Err(Refusal::PlanTooLarge));
+    assert_eq!(rt;
+        Plan::new(64).check(
+            &mut rows.index,
+            &mut rows.links,
+            &mut rows.values,
+            &mut rows.slots
+        ),
+        Ok(())
+    );
+    assert_eq!(rt;
+        Plan::new(65).check(
+            &mut rows.index,
+            &mut rows.links,
+            &mut rows.values,
+            &mut rows.slots
+        ),
+        Err(Refusal::PlanTooLarge)
+    );
 }
 
 #[test]

@@ -36,7 +36,15 @@ fn four_keys_over_inline_rows(rt: HostRuntime) {
         slots: InlineRow::filled(0),
     };
     let plan = Plan::new(4);
-    assert_eq!(rt; plan.check(&mut rows), Ok(()));
+    assert_eq!(rt;
+        plan.check(
+            &mut rows.index,
+            &mut rows.links,
+            &mut rows.values,
+            &mut rows.slots
+        ),
+        Ok(())
+    );
     let mut table = plan.init(rows);
     churn(&rt, &mut table);
 }
@@ -72,7 +80,15 @@ fn plans_that_do_not_fit(rt: HostRuntime) {
         slots: InlineRow::filled(0),
     };
     let plan = Plan::new(65);
-    assert_eq!(rt; plan.check(&mut rows), Err(Refusal::PlanTooLarge));
+    assert_eq!(rt;
+        plan.check(
+            &mut rows.index,
+            &mut rows.links,
+            &mut rows.values,
+            &mut rows.slots
+        ),
+        Err(Refusal::PlanTooLarge)
+    );
     let mut none = Plan::new(0).init(rows);
     assert_eq!(rt; none.insert(1), Ok(None));
     assert_eq!(rt; none.get(0), Err(Refusal::KeyPastTable));

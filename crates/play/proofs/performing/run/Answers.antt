@@ -9,8 +9,8 @@ use Rattle.play.proofs.performing.run.Goals as goal
 place_fits : (i n s : ℕ) → i < n → n * s < 2 ^ 63 → Fits w64 (i * s)
 place_fits i n s l f = grind arith
 
-pub offset_bounds-answer-items-i : goal.offset_bounds-answer-items-i
-offset_bounds-answer-items-i g c =
+pub offset_bounds-answers-i : goal.offset_bounds-answers-i
+offset_bounds-answers-i g c =
     let within : c.loop-i.i < length c.args.answers.now = omega (arith, length-take c.min-count.result c.args.answers.now) in
     search (rules, place_fits)
 
@@ -24,7 +24,7 @@ loop-i-preserved g c =
     let inv = c.loop-i.invariant in
     let made = c.perform.ensures in
     let more =
-    run_more o l n c.args.calls.now xs c.loop-i.answer-items _ c.loop-i.i call.result c.perform.result
+    run_more o l n c.args.calls.now xs c.loop-i.answers _ c.loop-i.i call.result c.perform.result
     (omega (arith, length-take c.min-count.result c.args.answers.now)) (omega arith) call.is made.value made.after refl inv.after inv.answered in
     record {
       after = more.0;

@@ -8,7 +8,7 @@ invariant-loop-i g l =
     let o = g.T.SlotMap.layout l.initial.table in
     record {
       after : g.T.SlotMap.layout l.table ≡ cells_after_all o (take l.i l.calls);
-      answered : l.answer-items ≡ cells_answers o (take l.i l.calls) ++ drop l.i l.initial.answer-items;
+      answered : l.answers ≡ cells_answers o (take l.i l.calls) ++ drop l.i l.initial.answers;
       sized : capacity (g.T.SlotMap.layout l.table) ≡ capacity o;
       beyond : SameBeyond o (g.T.SlotMap.layout l.table);
       beside : g.T.SlotMap.outside l.table ≡ g.T.SlotMap.outside l.initial.table;
