@@ -7,7 +7,7 @@ ghost use Rattle.model.specs.Layouts.{nil};
 use containers::MetaQueue;
 use rows::{NONE, Row};
 
-// No key has a slot.
+// No key has a slot. A loop of its own, beside that over the links: see `link_all`.
 pub(crate) fn clear_index<X: Row<Item = u32>>(index: &mut X, capacity: u32)
     ensures after { X.Row.cells index.new ≡ written (λ k. nil) capacity (X.Row.cells index.old) }
     ensures beside { X.Row.outside index.new ≡ X.Row.outside index.old }

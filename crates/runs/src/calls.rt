@@ -1,4 +1,4 @@
-// Calls of a queue of numbers, as values.
+// Calls of a queue of numbers, as values: a worked run is a list of them.
 
 #[derive(Clone, Copy, PartialEq, Eq, Debug)]
 pub enum QueueCall {

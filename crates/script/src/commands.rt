@@ -82,6 +82,7 @@ pub(crate) fn carry_out(
 ) -> Result<(), AllocError>
     ensures { Does (keys_layout table.old) (string_bytes out.old) result (string_bytes out.new) (keys_layout table.new) (λ t. said_by t command) (λ t. table_after t command) }
 {
+    // A match and no conversion: two commands are no calls.
     let call = match command {
         Command::Make(capacity) => return make_table(out, table, capacity),
         Command::Insert(value) => Call::Insert(value),

@@ -20,14 +20,12 @@ const REFUSALS: [Refusal; 12] = [
 
 #[test]
 fn refusals_are_numbered_in_order(rt: HostRuntime) {
-    let mut expected: u32 = 1;
-    for refusal in REFUSALS.iter() {
+    for (refusal, expected) in REFUSALS.iter().zip(1u32..=12) {
         assert_eq!(rt; refusal.number(), expected);
         assert_eq!(rt;
             refusal.carried().is_some(),
             expected == 8 || expected == 12
         );
-        expected = expected.saturating_add(1);
     }
 }
 

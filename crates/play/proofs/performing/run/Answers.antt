@@ -1,5 +1,5 @@
-use Rattle.std.proofs.Common.{◌≡◌, ℕ, ◌*◌, ◌^◌, ◌<◌, ◌++◌, length, take, drop, refl, ap, ◌∙◌, Fits, w64, append-nil, arith, rules}
-use Rattle.std.proofs.lemmas.List.{length-take, drop_all}
+use Rattle.std.proofs.Common.{◌≡◌, ℕ, ◌*◌, ◌^◌, ◌<◌, ◌++◌, length, get_or, take, drop, refl, ap, ◌∙◌, Fits, w64, arith, rules}
+use Rattle.std.proofs.lemmas.List.{length-take, get_or-take}
 use Rattle.model.specs.Layouts.{capacity}
 use Rattle.history.specs.Calls.{cells_answers, cells_after_all}
 use Rattle.history.proofs.Running.{call_size, beyond_more, run_more, run_reached}
@@ -11,7 +11,7 @@ place_fits i n s l f = grind arith
 
 pub offset_bounds-answers-i : goal.offset_bounds-answers-i
 offset_bounds-answers-i g c =
-    let within : c.loop-i.i < length c.args.answers.now = omega (arith, length-take c.min-count.result c.args.answers.now) in
+    let within : c.loop-i.i < length c.args.answers.now = omega (arith, c.min-count.ensures, length-take c.min-count.result c.args.calls.now) in
     search (rules, place_fits)
 
 pub loop-i-preserved : goal.loop-i-preserved
@@ -19,13 +19,16 @@ loop-i-preserved g c =
     let o = g.T.SlotMap.layout c.args.table.now in
     let l = g.T.SlotMap.layout c.loop-i.table in
     let n = g.T.SlotMap.layout c.perform.new.table in
-    let xs = take c.min-count.result c.args.answers.now in
-    let call = c.index-calls-i in
+    let calls = c.args.calls.now in
+    let i = c.loop-i.i in
+    let call = c.call-item in
     let inv = c.loop-i.invariant in
     let made = c.perform.ensures in
+    let within : i < c.min-count.result = omega (arith, length-take c.min-count.result calls) in
+    let item : call.result ≡ get_or calls i call.result = call.is ∙ get_or-take c.min-count.result calls i call.result within in
     let more =
-    run_more o l n c.args.calls.now xs c.loop-i.answers _ c.loop-i.i call.result c.perform.result
-    (omega (arith, length-take c.min-count.result c.args.answers.now)) (omega arith) call.is made.value made.after refl inv.after inv.answered in
+    run_more o l n calls c.args.answers.now c.loop-i.answers _ i call.result c.perform.result
+    (omega (arith, c.min-count.ensures)) (omega (arith, c.min-count.ensures)) item made.value made.after refl inv.after inv.answered in
     record {
       after = more.0;
       answered = more.1;
@@ -36,23 +39,14 @@ loop-i-preserved g c =
 
 pub returns-clause-after : goal.returns-clause-after
 returns-clause-after g c =
-    let o = g.T.SlotMap.layout c.args.table.now in
-    let n = c.min-count.result in
-    let all : c.loop-i.i ≡ n = omega (arith, length-take n c.args.answers.now) in
-    c.loop-i.invariant.after ∙ ap (λ i. cells_after_all o (take i c.args.calls.now)) all
+    let all : c.loop-i.i ≡ c.min-count.result = omega (arith, c.min-count.ensures, length-take c.min-count.result c.args.calls.now) in
+    c.loop-i.invariant.after ∙ ap (λ i. cells_after_all (g.T.SlotMap.layout c.args.table.now) (take i c.args.calls.now)) all
 
 pub returns-clause-value : goal.returns-clause-value
 returns-clause-value g c =
-    let o = g.T.SlotMap.layout c.args.table.now in
-    let calls = c.args.calls.now in
-    let answers = c.args.answers.now in
-    let n = c.min-count.result in
-    let all : c.loop-i.i ≡ n = omega (arith, length-take n answers) in
-    ap (λ xs. xs ++ drop n answers)
-    (c.loop-i.invariant.answered
-    ∙ ap (λ xs. cells_answers o (take c.loop-i.i calls) ++ xs) (drop_all c.loop-i.i (take n answers) c.loop-i-test.false)
-    ∙ append-nil (cells_answers o (take c.loop-i.i calls))
-    ∙ ap (λ i. cells_answers o (take i calls)) all)
+    let all : c.loop-i.i ≡ c.min-count.result = omega (arith, c.min-count.ensures, length-take c.min-count.result c.args.calls.now) in
+    c.loop-i.invariant.answered
+    ∙ ap (λ i. cells_answers (g.T.SlotMap.layout c.args.table.now) (take i c.args.calls.now) ++ drop i c.args.answers.now) all
 
 pub returns-clause-reached : goal.returns-clause-reached
 returns-clause-reached g c C h r =
