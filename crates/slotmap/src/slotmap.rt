@@ -1,13 +1,12 @@
 // The calls of a table, by its cells and by what they mean.
 ghost use Rattle.std.specs.Prelude.{◌≡◌, false, is_ok, if◌then◌else◌, Ok, ◌==◌, nat_eq};
-ghost use Rattle.model.specs.Checks.{get_cells, contains_cells, head_cells, step_cells, insert_cells, insert_at_cells, inserted_at, remove_cells, when_given, gave};
+ghost use Rattle.model.specs.Checks.{fill_answer, get_cells, contains_cells, head_cells, step_cells, insert_cells, insert_at_cells, inserted_at, remove_cells, when_given, gave};
 ghost use Rattle.model.specs.Layouts.{Layout, capacity, Legal, SameBeyond, filled, overwritten, emptied};
 ghost use Rattle.model.specs.Sound.{Follows, Tells};
 ghost use Rattle.audit.specs.Verdict.{Verdict};
 ghost use Rattle.model.specs.Tables.{insert_answer, insert_after, insert_at_answer, insert_at_after, get_answer, replace_after, remove_after, contains_answer, len_answer, step_answer};
 ghost use Rattle.std.proofs.Common.{rules};
 
-use calls::{contains_impl, get_impl, insert_at_impl, insert_impl, remove_impl, replace_impl};
 use cells::{SlotMapKey, Steps};
 use refusal::Refusal;
 
@@ -136,6 +135,19 @@ pub trait SlotMap {
     ghost legal: { (x : Self) → Legal (layout x).slots };
 }
 
+// A vacant key gets a slot and `value`.
+fn fill<T: Steps>(table: &mut T, key: SlotMapKey, value: T::Value) -> Result<(), Refusal>
+    ensures value { result ≡ fill_answer (T.Steps.layout table.old) key }
+    ensures after { T.Steps.layout table.new ≡ (if is_ok result then filled (T.Steps.layout table.old) key value else T.Steps.layout table.old) }
+    ensures kept { is_ok result ≡ false → T.Steps.stored table.new ≡ T.Steps.stored table.old }
+    ensures beside { T.Steps.outside table.new ≡ T.Steps.outside table.old }
+{
+    let entry = table.check_fill(key)?;
+    table.store_value(key, value)?;
+    table.claim_index(key, entry);
+    Ok(())
+}
+
 impl<T: Steps> SlotMap for T {
     type Value = T::Value;
 
@@ -152,16 +164,21 @@ impl<T: Steps> SlotMap for T {
     ghost legal = { Prim.search rules };
 
     fn get(&mut self, key: SlotMapKey) -> Result<Option<T::Value>, Refusal> {
-        get_impl(self, key)
+        let Some(slot) = self.slot_of(key)? else {
+            return Ok(None);
+        };
+        let value = self.value_of(slot)?;
+        Ok(Some(value))
     }
 
     fn contains(&mut self, key: SlotMapKey) -> Result<bool, Refusal> {
-        contains_impl(self, key)
+        let slot = self.slot_of(key)?;
+        Ok(slot.is_some())
     }
 
     fn next_available_key_after(&mut self, start: SlotMapKey) -> Option<(SlotMapKey, T::Value)> {
         for key in start..self.capacity() {
-            if let Some(value) = get_impl(self, key).unwrap_or(None) {
+            if let Some(value) = self.get(key).unwrap_or(None) {
                 return Some((key, value));
             }
         }
@@ -193,18 +210,35 @@ impl<T: Steps> SlotMap for T {
     }
 
     fn insert(&mut self, value: T::Value) -> Result<Option<SlotMapKey>, Refusal> {
-        insert_impl(self, value)
+        let Some(key) = self.acquire_next_free_index() else {
+            return Ok(None);
+        };
+        fill(self, key, value)?;
+        Ok(Some(key))
     }
 
     fn insert_at(&mut self, key: SlotMapKey, value: T::Value) -> Result<(), Refusal> {
-        insert_at_impl(self, key, value)
+        match self.slot_of(key)? {
+            Some(slot) => self.overwrite(slot, value),
+            None => fill(self, key, value),
+        }
     }
 
     fn replace(&mut self, key: SlotMapKey, value: T::Value) -> Result<Option<T::Value>, Refusal> {
-        replace_impl(self, key, value)
+        let Some(slot) = self.slot_of(key)? else {
+            return Ok(None);
+        };
+        let old = self.value_of(slot)?;
+        let _ = self.overwrite(slot, value);
+        Ok(Some(old))
     }
 
     fn remove(&mut self, key: SlotMapKey) -> Result<Option<T::Value>, Refusal> {
-        remove_impl(self, key)
+        let Some(slot) = self.slot_of(key)? else {
+            return Ok(None);
+        };
+        let value = self.value_of(slot)?;
+        self.vacate(key, slot)?;
+        Ok(Some(value))
     }
 }

@@ -1,5 +1,5 @@
 use Rattle.model.proofs.Fills.{fill_steps}
-use Rattle.calls.proofs.calls.fill.Goals as goal
+use Rattle.slotmap.proofs.slotmap.fill.Goals as goal
 
 pub returns-clause-after : goal.returns-clause-after
 returns-clause-after g c =
