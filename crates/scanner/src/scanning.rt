@@ -40,7 +40,7 @@ fn and_digit(number: u32, byte: u8) -> Option<u32>
         .checked_add(char::from(byte).to_digit(10)?)
 }
 
-// The rest of a line, from `end` on.
+// The rest of a line, from `end` on. Its errors are lengths of what is read, and no codes.
 #[derive(Drop)]
 struct Rest<'a> {
     line: &'a [u8],

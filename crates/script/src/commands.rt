@@ -1,5 +1,5 @@
 // One command of a script, on the script's table.
-ghost use Rattle.std.specs.Prelude.{string_bytes};
+ghost use Rattle.std.specs.Prelude.{◌≡◌, length, string_bytes};
 ghost use Rattle.history.specs.Calls.{answer_to, after};
 ghost use Rattle.script.specs.Transcript.{call_said, pairs_from, listed, said_by, table_after, Does, keys_layout};
 ghost use Rattle.scanner.specs.declared.command.Command.TheVariants.{Make};
@@ -19,6 +19,26 @@ pub(crate) type Keys = MetaSlotMap<
     InlineRow<u32>,
     InlineRow<u32>,
 >;
+
+// Rows for a table of a script.
+pub(crate) fn key_rows() -> Rows<
+    InlineRow<u32>,
+    InlineRow<FreeListEntry>,
+    InlineRow<u32>,
+    InlineRow<u32>,
+>
+    ensures index { length result.index.cells ≡ 64 }
+    ensures links { length result.links.cells ≡ 64 }
+    ensures values { length result.values.cells ≡ 64 }
+    ensures slots { length result.slots.cells ≡ 64 }
+{
+    Rows {
+        index: InlineRow::filled(NONE),
+        links: InlineRow::filled(NO_LINK),
+        values: InlineRow::filled(0),
+        slots: InlineRow::filled(0),
+    }
+}
 
 // Makes a call, and prints its answer.
 fn answer_call<T: SlotMap<Value = u32>>(
@@ -53,12 +73,7 @@ fn print_pairs<T: SlotMap<Value = u32>>(out: &mut String, table: &mut T) -> Resu
 fn make_table(out: &mut String, table: &mut Keys, capacity: u32) -> Result<(), AllocError>
     ensures { Does (keys_layout table.old) (string_bytes out.old) result (string_bytes out.new) (keys_layout table.new) (λ t. said_by t (Make capacity)) (λ t. table_after t (Make capacity)) }
 {
-    let mut rows = Rows {
-        index: InlineRow::filled(NONE),
-        links: InlineRow::filled(NO_LINK),
-        values: InlineRow::filled(0),
-        slots: InlineRow::filled(0),
-    };
+    let mut rows = key_rows();
     let plan = Plan::new(capacity);
     match plan.check(
         &mut rows.index,

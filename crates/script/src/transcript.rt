@@ -6,11 +6,10 @@ ghost use Rattle.text.specs.Lines.{lines};
 ghost use Rattle.scanner.specs.Legal.{scanned};
 ghost use Rattle.script.specs.Transcript.{line_said, line_after, printed, transcript, Does, keys_layout};
 
-use crate::commands::{Keys, carry_out};
+use crate::commands::{Keys, carry_out, key_rows};
 use refusal::Refusal;
-use rows::{InlineRow, NO_LINK, NONE};
 use scanner::{Command, scan};
-use slotmap::{Plan, Rows};
+use slotmap::Plan;
 use std::alloc::{AllocError, Global};
 use std::fmt::Write;
 use text::LineReader;
@@ -60,12 +59,7 @@ pub fn transcribe(heap: Global, input: &[u8]) -> Result<String, AllocError>
         writeln!(out, "{}", Refusal::LineNotLegal(MOST_BYTES as u64))?;
         return Ok(out);
     }
-    let mut table = Plan::new(0).init(Rows {
-        index: InlineRow::filled(NONE),
-        links: InlineRow::filled(NO_LINK),
-        values: InlineRow::filled(0),
-        slots: InlineRow::filled(0),
-    });
+    let mut table = Plan::new(0).init(key_rows());
     carry_out_lines(&mut out, &mut table, input)?;
     Ok(out)
 }
