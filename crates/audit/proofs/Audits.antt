@@ -1,5 +1,6 @@
 -- The parts of the audit together are what makes cells stand.
-use Rattle.std.proofs.Common.{◌≡◌, ℕ, ◌+◌, ◌-◌, ◌%◌, ◌<◌, ◌≤◌, Bool, false, List, get_or, Some, MatchBool, sym, refl, ap, ◌∙◌, subst, ⊎_elim, mod-lt, mod-eq_of_lt, zero-add, arith}
+use Rattle.std.proofs.Common.{◌≡◌, ℕ, ◌+◌, ◌-◌, ◌%◌, ◌<◌, ◌≤◌, Bool, false, List, get_or, replicate, Some, MatchBool, sym, refl, ap, ◌∙◌, subst, ⊎_elim, mod-lt, mod-eq_of_lt, zero-add, arith}
+use lib.ListN.{get_or-replicate}
 use Rattle.std.proofs.ByRecursion.{All-get_or, All-from_get_or}
 use Rattle.std.proofs.lemmas.Option.{slice_get-get_or}
 use Rattle.std.proofs.lemmas.Bool.{cases_eq, cases_lt}
@@ -18,8 +19,14 @@ use Rattle.audit.proofs.Walks.{linked_all, linked_once}
 use Rattle.audit.proofs.Marks.{bit_small, given_yes, given_no, given_small}
 
 -- the marks of the index cells and of the queue
-module _ (xs : List ℕ) (q : QueueState ℕ) (n : ℕ) (small : q.capacity ≤ 65535) (within : q.len ≤ q.capacity) (backed : Backed q)
-    (clear : List Bool) (none : (s : ℕ) → s < q.capacity → get_or clear s false ≡ false) where
+module _ (xs : List ℕ) (q : QueueState ℕ) (n : ℕ) (small : q.capacity ≤ 65535) (within : q.len ≤ q.capacity) (backed : Backed q) where
+  -- at first no slot has a mark
+  abbrev clear : List Bool
+  clear = replicate 65535 false
+
+  none : (s : ℕ) → s < q.capacity → get_or clear s false ≡ false
+  none s b = get_or-replicate 65535 s false false (omega (arith, small, b))
+
   at_key : (k : ℕ) → k < q.capacity → ring xs q.capacity 0 k ≡ slot_at xs k
   at_key k b = ap (λ i. slot_at xs (i % q.capacity)) (zero-add k) ∙ ap (slot_at xs) (mod-eq_of_lt b)
 

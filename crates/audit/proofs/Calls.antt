@@ -1,6 +1,5 @@
 -- What one call hands on to the next.
-use Rattle.std.proofs.Common.{◌≡◌, ℕ, ◌<◌, ◌≤◌, Bool, true, false, length, get_or, replicate, MatchBool, subst, arith}
-use lib.ListN.{length-replicate, get_or-replicate}
+use Rattle.std.proofs.Common.{◌≡◌, Bool, true, false, MatchBool, subst}
 
 -- a fact of what two rows held is one of what they hold
 pub moved : {A B : Type 0} (P : A → B → Type 0) {a a' : A} {b b' : B} → a' ≡ a → b' ≡ b → P a' b' → P a b
@@ -10,7 +9,3 @@ moved P {a} {a'} {b} {b'} ea eb p = subst (λ y. P a y) eb (subst (λ x. P x b')
 pub when_like : {P Q R S : Type 0} (b : Bool) → (P → R) → (Q → S) → MatchBool b P Q → MatchBool b R S
 when_like true f g h = f h
 when_like false f g h = g h
-
--- fresh marks: enough, and none set
-pub marks_clear : (n : ℕ) → (n ≤ length (replicate n false)) × ((s : ℕ) → s < n → get_or (replicate n false) s false ≡ false)
-marks_clear n = (omega (arith, length-replicate n false), λ s b. get_or-replicate n s false false b)

@@ -1,10 +1,10 @@
 -- The marks: a slot has one for each number that was met, and at most one.
 use Rattle.std.proofs.Common.{◌≡◌, ℕ, ◌+◌, ◌<◌, ◌≤◌, Bool, true, false, eqb, ◌≢◌, List, get_or, ap, ◌∙◌, ⊎_elim, arith}
-use Rattle.std.proofs.lemmas.Bool.{cases_eq, cases_Bool, eq-eqb, ne_eqb, cond-true, cond-false}
+use Rattle.std.proofs.lemmas.Bool.{cases_eq, eq-eqb, ne_eqb, cond-true, cond-false}
 use Rattle.model.specs.Counts.{same}
 use Rattle.model.specs.Layouts.{nil}
 use Rattle.model.proofs.Sums.{same_yes}
-use Rattle.audit.specs.Parts.{Unmarked, bit, given, Apart, Marked}
+use Rattle.audit.specs.Parts.{bit, given, Apart, Marked}
 use Rattle.audit.proofs.Sums.{sum_step, sum_up}
 
 pub bit_small : (b : Bool) → bit b ≤ 1
@@ -23,9 +23,8 @@ given_small s = ⊎_elim (λ e. omega (arith, given_no s e)) (λ e. omega (arith
 module _ {before : List Bool} {C : ℕ} {f : ℕ → ℕ} where
   -- it is no slot, or a slot that has a mark: one too many
   pub marked_stuck : {now : List Bool} {i m n k : ℕ} (s : ℕ) → Marked before now C f i n → s ≡ f i → i < m → s ≢ nil
-      → (Unmarked now C s → ⊥) → Apart before C f m k → ⊥
+      → (s < C → get_or now s false ≡ true) → Apart before C f m k → ⊥
   marked_stuck {now} {i} {m} {n} {k} s h is l ne full a =
       let b : s < C = omega (arith, is, a.slots i l (λ e. ne (is ∙ e))) in
-      let was : get_or now s false ≡ true = ⊎_elim (λ e. e) (λ e. absurd (full (b, e))) (cases_Bool (get_or now s false)) in
       let g : ℕ → ℕ = λ j. same s (f j) in
-      omega (arith, ap bit was, h.marks s b, a.once s b, sum_step g i, sum_up g (i + 1) m (omega arith), same_yes s (f i) is)
+      omega (arith, ap bit (full b), h.marks s b, a.once s b, sum_step g i, sum_up g (i + 1) m (omega arith), same_yes s (f i) is)

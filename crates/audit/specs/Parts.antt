@@ -32,10 +32,6 @@ Listed xs ls C h n = (ks : List ℕ) × Linked ls C nil h ks × AllByRecursion (
 abbrev pub Loose : List ℕ → List FreeListEntry → ℕ → Type 0
 Loose xs ls C = (k : ℕ) → k < C → slot_at xs k ≢ nil → link_at ls k ≡ unlinked
 
--- a slot below C that has no mark
-abbrev pub Unmarked : List Bool → ℕ → ℕ → Type 0
-Unmarked ms C s = (s < C) × (slice_index_or ms s false ≡ false)
-
 -- 1 for a mark, else 0; 1 for a number that is not nil, else 0
 abbrev pub bit : Bool → ℕ
 bit b = cond b 1 0

@@ -1,9 +1,11 @@
-// The keys: those that are vacant stand in the free list, and those that hold have no links.
+// The keys: those that are vacant stand in the free list, and those that hold have no links. The rows are passed
+// one by one: a struct of them would hold loans, and each contract would have to say that they stay the same loans.
 ghost use Rattle.std.specs.Prelude.{◌≡◌, MatchBool};
 ghost use Rattle.audit.specs.Parts.{next_key, Listed, Loose};
 ghost use Rattle.rows.specs.Kept.{Kept};
 
 use crate::cells::cell_or;
+use crate::registers::Registers;
 use rows::{FreeListEntry, NO_LINK, NONE, Row};
 
 // The key after `key` in the free list; none where `key` is no vacant key of the table, or its
@@ -32,22 +34,20 @@ fn next_key<X: Row<Item = u32>, L: Row<Item = FreeListEntry>>(
     Some(link.next)
 }
 
-// Whether the free list from `head` has `keys` keys, all of them vacant.
+// Whether the free list has as many keys as there are slots that wait, all of them vacant.
 pub(crate) fn free_list_stands<X: Row<Item = u32>, L: Row<Item = FreeListEntry>>(
     index: &mut X,
     links: &mut L,
-    capacity: u32,
-    head: u32,
-    keys: u32,
+    registers: Registers,
 ) -> bool
-    ensures value { MatchBool result (Listed (X.Row.cells index.old) (L.Row.cells links.old) capacity head keys) (Listed (X.Row.cells index.old) (L.Row.cells links.old) capacity head keys → ⊥) }
+    ensures value { MatchBool result (Listed (X.Row.cells index.old) (L.Row.cells links.old) registers.capacity registers.head registers.waiting) (Listed (X.Row.cells index.old) (L.Row.cells links.old) registers.capacity registers.head registers.waiting → ⊥) }
     ensures index { Kept X.Row index.old index.new }
     ensures links { Kept L.Row links.old links.new }
 {
     let mut previous = NONE;
-    let mut key = head;
-    for _ in 0..keys {
-        let Some(next) = next_key(index, links, capacity, previous, key) else {
+    let mut key = registers.head;
+    for _ in 0..registers.waiting {
+        let Some(next) = next_key(index, links, registers.capacity, previous, key) else {
             return false;
         };
         previous = key;

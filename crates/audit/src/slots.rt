@@ -1,24 +1,16 @@
 // The slots: each belongs to one key or waits once. A slot that was met has a mark.
-ghost use Rattle.std.specs.Prelude.{◌≡◌, ℕ, ◌-◌, ◌<◌, ◌≤◌, true, false, length, MatchBool, slice_index_or, slice_set};
-ghost use Rattle.audit.specs.Parts.{Unmarked, ring, Apart, Marked, Shared};
+ghost use Rattle.std.specs.Prelude.{◌≡◌, ◌-◌, ◌≤◌, length, MatchBool};
+ghost use Rattle.audit.specs.Parts.{ring, Apart, Marked, Shared};
 ghost use Rattle.rows.specs.Kept.{Kept};
 ghost use Rattle.audit.specs.Verdict.{queue_of};
 
 use crate::cells::cell_or;
 use crate::registers::Registers;
+use containers::MAX_CAPACITY;
 use rows::{NONE, Row};
 
-// Marks `slot`; not where it is no slot of the table, or has a mark.
-fn mark(marks: &mut [bool], capacity: u32, slot: u32) -> bool
-    requires { capacity ≤ length marks.old }
-    ensures { MatchBool result (Unmarked marks.old capacity slot × (marks.new ≡ slice_set marks.old slot true)) (Unmarked marks.old capacity slot → ⊥) }
-{
-    if slot >= capacity || marks[slot as usize] {
-        return false;
-    }
-    marks[slot as usize] = true;
-    true
-}
+// The most slots that a table has.
+const MOST_SLOTS: usize = MAX_CAPACITY as usize;
 
 // Marks the slots in `places` cells of a row, from `first` on and round its first `capacity`
 // cells; whether they are `slots` slots that had no mark and differ. A cell that is `NONE` is
@@ -29,9 +21,9 @@ fn mark_slots<R: Row<Item = u32>>(
     places: u32,
     slots: u32,
     capacity: u32,
-    marks: &mut [bool],
+    marks: &mut [bool; MOST_SLOTS],
 ) -> bool
-    requires { (capacity ≤ 65535) × ((places ≤ capacity) × ((first ≤ 131070) × (capacity ≤ length marks.old))) }
+    requires { (capacity ≤ 65535) × ((places ≤ capacity) × (first ≤ 131070)) }
     ensures value { MatchBool result (Marked marks.old marks.new capacity (ring (R.Row.cells row.old) capacity first) places slots) (Apart marks.old capacity (ring (R.Row.cells row.old) capacity first) places slots → ⊥) }
     ensures kept { Kept R.Row row.old row.new }
 {
@@ -42,9 +34,10 @@ fn mark_slots<R: Row<Item = u32>>(
         if slot == NONE {
             continue;
         }
-        if !mark(marks, capacity, slot) {
+        if slot >= capacity || marks[slot as usize] {
             return false;
         }
+        marks[slot as usize] = true;
         marked += 1;
     }
     marked == slots
@@ -56,14 +49,11 @@ pub(crate) fn slots_stand<X: Row<Item = u32>, Q: Row<Item = u32>>(
     index: &mut X,
     slots: &mut Q,
     registers: Registers,
-    marks: &mut [bool],
 ) -> bool
     requires small { registers.capacity ≤ 65535 }
     requires begins { registers.start ≤ registers.capacity - 1 }
     requires within { registers.waiting ≤ registers.capacity }
     requires backed { registers.capacity ≤ length (Q.Row.cells slots.old) }
-    requires room { registers.capacity ≤ length marks.old }
-    requires clear { (s : ℕ) → s < registers.capacity → slice_index_or marks.old s false ≡ false }
     ensures value { MatchBool result (Shared (X.Row.cells index.old) (queue_of registers (Q.Row.cells slots.old)) registers.len) (Shared (X.Row.cells index.old) (queue_of registers (Q.Row.cells slots.old)) registers.len → ⊥) }
     ensures index { Kept X.Row index.old index.new }
     ensures slots { Kept Q.Row slots.old slots.new }
@@ -75,9 +65,11 @@ pub(crate) fn slots_stand<X: Row<Item = u32>, Q: Row<Item = u32>>(
         waiting,
         len,
     } = registers;
-    if !mark_slots(index, 0, capacity, len, capacity, marks) {
+    // A byte for each slot that there can be: there is no heap.
+    let mut marks = [false; MOST_SLOTS];
+    if !mark_slots(index, 0, capacity, len, capacity, &mut marks) {
         return false;
     }
     let oldest = start + capacity - waiting;
-    mark_slots(slots, oldest, waiting, waiting, capacity, marks)
+    mark_slots(slots, oldest, waiting, waiting, capacity, &mut marks)
 }

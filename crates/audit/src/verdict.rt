@@ -1,5 +1,5 @@
 // Whether cells and registers stand.
-ghost use Rattle.std.specs.Prelude.{◌≡◌, ℕ, ◌<◌, ◌≤◌, false, length, MatchBool, nat_le, slice_index_or};
+ghost use Rattle.std.specs.Prelude.{◌≡◌, length, MatchBool, nat_le};
 ghost use Rattle.model.specs.Sound.{Stands};
 ghost use Rattle.audit.specs.Parts.{Sized};
 ghost use Rattle.rows.specs.Kept.{Kept};
@@ -8,6 +8,7 @@ ghost use Rattle.audit.specs.Verdict.{layout_of, Verdict};
 use crate::keys::{free_list_stands, holding_keys_are_loose};
 use crate::registers::Registers;
 use crate::slots::slots_stand;
+use containers::MAX_CAPACITY;
 use refusal::Refusal;
 use rows::{FreeListEntry, Row};
 
@@ -41,7 +42,7 @@ fn sizes_stand<X: Row<Item = u32>, L: Row<Item = FreeListEntry>, D: Row, Q: Row<
         waiting,
         len,
     } = registers;
-    if capacity > 65535 || waiting > capacity || len != capacity - waiting {
+    if capacity > MAX_CAPACITY || waiting > capacity || len != capacity - waiting {
         return false;
     }
     if start > 0 && start >= capacity {
@@ -53,16 +54,14 @@ fn sizes_stand<X: Row<Item = u32>, L: Row<Item = FreeListEntry>, D: Row, Q: Row<
         && has_cells(slots, capacity)
 }
 
-// Whether the cells and registers stand, by marks of which none is set.
+// Whether the cells and registers stand.
 fn stands<X: Row<Item = u32>, L: Row<Item = FreeListEntry>, D: Row, Q: Row<Item = u32>>(
     index: &mut X,
     links: &mut L,
     values: &mut D,
     slots: &mut Q,
     registers: Registers,
-    marks: &mut [bool],
 ) -> bool
-    requires { (65535 ≤ length marks.old) × (((s : ℕ) → s < 65535 → slice_index_or marks.old s false ≡ false)) }
     ensures value { MatchBool result (Stands (layout_of registers (X.Row.cells index.old) (L.Row.cells links.old) (D.Row.cells values.old) (Q.Row.cells slots.old))) (Stands (layout_of registers (X.Row.cells index.old) (L.Row.cells links.old) (D.Row.cells values.old) (Q.Row.cells slots.old)) → ⊥) }
     ensures index { Kept X.Row index.old index.new }
     ensures links { Kept L.Row links.old links.new }
@@ -72,14 +71,13 @@ fn stands<X: Row<Item = u32>, L: Row<Item = FreeListEntry>, D: Row, Q: Row<Item 
     if !sizes_stand(index, links, values, slots, registers) {
         return false;
     }
-    let capacity = registers.capacity;
-    if !free_list_stands(index, links, capacity, registers.head, registers.waiting) {
+    if !free_list_stands(index, links, registers) {
         return false;
     }
-    if !holding_keys_are_loose(index, links, capacity) {
+    if !holding_keys_are_loose(index, links, registers.capacity) {
         return false;
     }
-    slots_stand(index, slots, registers, marks)
+    slots_stand(index, slots, registers)
 }
 
 // Audits a table by its registers and rows: accepts them where they stand, and refuses them
@@ -97,9 +95,7 @@ pub fn audit<X: Row<Item = u32>, L: Row<Item = FreeListEntry>, D: Row, Q: Row<It
     ensures values { Kept D.Row values.old values.new }
     ensures slots { Kept Q.Row slots.old slots.new }
 {
-    // A byte for each slot that there can be: there is no heap.
-    let mut marks = [false; 65535];
-    if stands(index, links, values, slots, registers, &mut marks) {
+    if stands(index, links, values, slots, registers) {
         Ok(())
     } else {
         Err(Refusal::AuditFailed)

@@ -1,19 +1,19 @@
 // The cells of a fresh table.
-ghost use Rattle.std.specs.Prelude.{◌≡◌, min, length};
+ghost use Rattle.std.specs.Prelude.{◌≡◌, ℕ, min, length};
 ghost use Rattle.containers.specs.Queues.{queue as state};
 ghost use Rattle.model.specs.Fresh.{written, slots_to};
-ghost use Rattle.model.specs.Layouts.{nil};
 
 use containers::MetaQueue;
-use rows::{NONE, Row};
+use rows::Row;
 
-// No key has a slot. A loop of its own, beside that over the links: see `link_all`.
-pub(crate) fn clear_index<X: Row<Item = u32>>(index: &mut X, capacity: u32)
-    ensures after { X.Row.cells index.new ≡ written (λ k. nil) capacity (X.Row.cells index.old) }
-    ensures beside { X.Row.outside index.new ≡ X.Row.outside index.old }
+// Writes what `cell` says of each key below `capacity` to the key's cell.
+pub(crate) fn write_all<R: Row, F: Fn(u32) -> R::Item>(row: &mut R, capacity: u32, cell: F)
+    requires { F.IsAlwaysCallable cell }
+    ensures after { (f : ℕ → R.Item) → ((k : ℕ) (x : R.Item) → F.post cell k x → x ≡ f k) → R.Row.cells row.new ≡ written f capacity (R.Row.cells row.old) }
+    ensures beside { R.Row.outside row.new ≡ R.Row.outside row.old }
 {
     for key in 0..capacity {
-        let _ = index.write(key as usize, NONE);
+        let _ = row.write(key as usize, cell(key));
     }
 }
 

@@ -1,19 +1,20 @@
 // A table that is asked for, and the table that is made of it.
 ghost use Rattle.std.specs.Prelude.{◌≡◌, [], length};
-ghost use Rattle.model.specs.Fresh.{least, plan_answer, size_over, bare, fresh_layout};
+ghost use Rattle.model.specs.Fresh.{least, plan_answer};
 ghost use Rattle.model.specs.Layouts.{SameBeyond};
 ghost use Rattle.model.specs.Sound.{Means};
 ghost use Rattle.model.specs.Tables.{fresh};
 ghost use Rattle.history.specs.Promise.{Reached};
 ghost use Rattle.cells.specs.Laid.{laid};
+ghost use Rattle.cells.specs.Over.{keys_over, bare_over, fresh_over};
 ghost use Rattle.rows.specs.Kept.{Kept};
 
-use crate::fresh::{clear_index, queue_all};
+use crate::fresh::{queue_all, write_all};
 use crate::slotmap::{MetaSlotMap, Rows};
 use containers::fitting;
-use freelist::{first_key, link_all};
+use freelist::{first_key, fresh_link};
 use refusal::Refusal;
-use rows::{FreeListEntry, Row};
+use rows::{FreeListEntry, NONE, Row};
 
 // A table of so many keys, not made yet.
 #[derive(Drop)]
@@ -79,10 +80,10 @@ impl Plan {
         self,
         mut rows: Rows<X, L, D, Q>,
     ) -> MetaSlotMap<X, L, D, Q>
-        ensures cells { laid X.Row.cells L.Row.cells D.Row.cells result ≡ fresh_layout (size_over self.capacity (X.Row.cells rows.index) (L.Row.cells rows.links) (D.Row.cells rows.values) (Q.Row.cells rows.slots)) (X.Row.cells rows.index) (L.Row.cells rows.links) (D.Row.cells rows.values) (Q.Row.cells rows.slots) }
-        ensures means { Means (laid X.Row.cells L.Row.cells D.Row.cells result) (fresh (size_over self.capacity (X.Row.cells rows.index) (L.Row.cells rows.links) (D.Row.cells rows.values) (Q.Row.cells rows.slots))) }
-        ensures reached { Reached (size_over self.capacity (X.Row.cells rows.index) (L.Row.cells rows.links) (D.Row.cells rows.values) (Q.Row.cells rows.slots)) [] (laid X.Row.cells L.Row.cells D.Row.cells result) }
-        ensures beyond { SameBeyond (bare (size_over self.capacity (X.Row.cells rows.index) (L.Row.cells rows.links) (D.Row.cells rows.values) (Q.Row.cells rows.slots)) (X.Row.cells rows.index) (L.Row.cells rows.links) (D.Row.cells rows.values) (Q.Row.cells rows.slots)) (laid X.Row.cells L.Row.cells D.Row.cells result) }
+        ensures cells { laid X.Row.cells L.Row.cells D.Row.cells result ≡ fresh_over X.Row L.Row D.Row Q.Row self.capacity rows }
+        ensures means { Means (laid X.Row.cells L.Row.cells D.Row.cells result) (fresh (keys_over X.Row L.Row D.Row Q.Row self.capacity rows)) }
+        ensures reached { Reached (keys_over X.Row L.Row D.Row Q.Row self.capacity rows) [] (laid X.Row.cells L.Row.cells D.Row.cells result) }
+        ensures beyond { SameBeyond (bare_over X.Row L.Row D.Row Q.Row self.capacity rows) (laid X.Row.cells L.Row.cells D.Row.cells result) }
         ensures unwritten { D.Row.stored result.«data» ≡ D.Row.stored rows.values }
         ensures outside { (X.Row.outside result.idx_to_data ≡ X.Row.outside rows.index) × ((L.Row.outside result.idx_to_data_free_list ≡ L.Row.outside rows.links) × ((D.Row.outside result.«data» ≡ D.Row.outside rows.values) × (Q.Row.outside result.data_next_free_index.row ≡ Q.Row.outside rows.slots))) }
     {
@@ -93,8 +94,8 @@ impl Plan {
             &mut rows.values,
             &mut rows.slots,
         );
-        clear_index(&mut rows.index, capacity);
-        link_all(&mut rows.links, capacity);
+        write_all(&mut rows.index, capacity, |_| NONE);
+        write_all(&mut rows.links, capacity, |key| fresh_link(key, capacity));
         MetaSlotMap {
             idx_to_data: rows.index,
             idx_to_data_free_list: rows.links,

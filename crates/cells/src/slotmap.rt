@@ -20,7 +20,8 @@ pub struct MetaSlotMap<
     pub(crate) idx_to_data_free_list: L,
     pub(crate) data: D,
     pub(crate) data_next_free_index: MetaQueue<Q>,
-    // a key, or `NONE` as in the cells
+    // a key, or `NONE`, as in a link cell: it is copied from link cells and to them, and an `Option` would be one more
+    // form of no key, `Some(NONE)`
     pub(crate) idx_to_data_free_list_head: u32,
     pub(crate) len: u32,
 }

@@ -2,6 +2,7 @@
 ghost use Rattle.std.specs.Prelude.{◌≡◌, ◌+◌, ◌*◌, ◌/◌, ◌^◌, ◌<◌, ◌≤◌, false, length, is_ok, if◌then◌else◌, slice_set};
 ghost use Rattle.std.proofs.Math.Seq.{paste};
 ghost use Rattle.rows.specs.Cells.{window, write_at};
+ghost use Rattle.rows.specs.Kept.{Kept};
 ghost use Rattle.codes.specs.Packed.{packed, Behind, behind};
 
 use crate::bytes::ByteArray;
@@ -22,9 +23,7 @@ fn whole<K: Coded, B: Row<Item = u8>>(bytes: &mut B) -> usize
     ensures value { result ≡ length (B.Row.cells bytes.old) / K.Bytes.ByteArray.size }
     ensures fits { length (B.Row.cells bytes.old) < 2 ^ 64 }
     ensures some { 0 < K.Bytes.ByteArray.size }
-    ensures same { B.Row.cells bytes.new ≡ B.Row.cells bytes.old }
-    ensures untouched { B.Row.stored bytes.new ≡ B.Row.stored bytes.old }
-    ensures beside { B.Row.outside bytes.new ≡ B.Row.outside bytes.old }
+    ensures kept { Kept B.Row bytes.old bytes.new }
 {
     bytes.count() / usize::from(K::width())
 }
@@ -33,17 +32,12 @@ fn whole<K: Coded, B: Row<Item = u8>>(bytes: &mut B) -> usize
 fn gather<A: ByteArray, B: Row<Item = u8>>(bytes: &mut B, at: usize) -> A
     requires { (at + A.ByteArray.size ≤ length (B.Row.cells bytes.old)) × (length (B.Row.cells bytes.old) < 2 ^ 64) }
     ensures value { A.ByteArray.list result ≡ window at A.ByteArray.size (B.Row.cells bytes.old) }
-    ensures same { B.Row.cells bytes.new ≡ B.Row.cells bytes.old }
-    ensures untouched { B.Row.stored bytes.new ≡ B.Row.stored bytes.old }
-    ensures beside { B.Row.outside bytes.new ≡ B.Row.outside bytes.old }
+    ensures kept { Kept B.Row bytes.old bytes.new }
 {
     let mut string = A::zeros();
     // Places, since a row has no iterator: the next place may lie anywhere below it.
     for i in 0..A::size() {
-        match bytes.read(at + i) {
-            Ok(byte) => string.put(i, byte),
-            Err(_) => unreachable(),
-        }
+        string.put(i, bytes.read(at + i).unwrap_or(0));
     }
     string
 }

@@ -7,6 +7,6 @@ mod position;
 mod queue;
 mod vec;
 
-pub use capacity::fitting;
+pub use capacity::{MAX_CAPACITY, fitting};
 pub use queue::MetaQueue;
 pub use vec::MetaVec;

@@ -4,5 +4,5 @@
 mod fresh;
 mod links;
 
-pub use fresh::{first_key, link_all};
+pub use fresh::{first_key, fresh_link};
 pub use links::{check_claim, check_neighbour, link_first, link_of, unlink};

@@ -1,7 +1,9 @@
-// The free list, in the row of links.
+// The free list, in the row of links. Links and capacity are passed one by one: a table has them in two fields, and
+// a struct of both would hold a loan, of which each contract would have to say that it stays the same loan.
 ghost use Rattle.std.specs.Prelude.{◌≡◌};
 ghost use Rattle.model.specs.Checks.{link_of, neighbour, claimable};
 ghost use Rattle.model.specs.Layouts.{relinked, cut_out, put_first};
+ghost use Rattle.rows.specs.Kept.{Kept};
 
 use refusal::Refusal;
 use rows::{FreeListEntry, NO_LINK, NONE, Row};
@@ -13,9 +15,7 @@ pub fn link_of<L: Row<Item = FreeListEntry>>(
     key: u32,
 ) -> Result<FreeListEntry, Refusal>
     ensures value { result ≡ link_of (L.Row.cells links.old) capacity key }
-    ensures same { L.Row.cells links.new ≡ L.Row.cells links.old }
-    ensures untouched { L.Row.stored links.new ≡ L.Row.stored links.old }
-    ensures beside { L.Row.outside links.new ≡ L.Row.outside links.old }
+    ensures kept { Kept L.Row links.old links.new }
 {
     if key >= capacity {
         return Err(Refusal::AuditFailed);
@@ -30,9 +30,7 @@ pub fn check_neighbour<L: Row<Item = FreeListEntry>>(
     key: u32,
 ) -> Result<(), Refusal>
     ensures value { result ≡ neighbour (L.Row.cells links.old) capacity key }
-    ensures same { L.Row.cells links.new ≡ L.Row.cells links.old }
-    ensures untouched { L.Row.stored links.new ≡ L.Row.stored links.old }
-    ensures beside { L.Row.outside links.new ≡ L.Row.outside links.old }
+    ensures kept { Kept L.Row links.old links.new }
 {
     if key == NONE {
         return Ok(());
@@ -48,9 +46,7 @@ pub fn check_claim<L: Row<Item = FreeListEntry>>(
     key: u32,
 ) -> Result<FreeListEntry, Refusal>
     ensures value { result ≡ claimable (L.Row.cells links.old) capacity key }
-    ensures same { L.Row.cells links.new ≡ L.Row.cells links.old }
-    ensures untouched { L.Row.stored links.new ≡ L.Row.stored links.old }
-    ensures beside { L.Row.outside links.new ≡ L.Row.outside links.old }
+    ensures kept { Kept L.Row links.old links.new }
 {
     let entry = link_of(links, capacity, key)?;
     check_neighbour(links, capacity, entry.previous)?;

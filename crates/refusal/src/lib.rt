@@ -58,7 +58,8 @@ impl Refusal {
         }
     }
 
-    // The offset or the length that this refusal carries, if it carries one.
+    // The offset or the length that this refusal carries, if it carries one. A method, since
+    // `Option::from(refusal)` would not say what of it.
     pub fn carried(self) -> Option<u64>
         ensures { result ≡ (told self).1 }
     {

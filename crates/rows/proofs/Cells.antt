@@ -1,7 +1,8 @@
 -- Laws of cells and windows, over lists alone.
-use Rattle.std.proofs.Common.{◌≡◌, ℕ, zero, suc, ◌+◌, ◌-◌, ◌<◌, ◌≤◌, min, List, [], ◌∷◌, length, get_or, take, drop, set, Ok, Err, Result, refl, ap, ◌∙◌, ⊎_elim, arith}
+use Rattle.std.proofs.Common.{◌≡◌, ℕ, zero, suc, ◌+◌, ◌-◌, ◌<◌, ◌≤◌, min, List, [], ◌∷◌, length, get_or, take, drop, set, Ok, Err, refl, ap, ◌∙◌, ⊎_elim, arith}
 use lib.Seq.{take-set-lt}
 use Rattle.std.specs.List.{slice_get}
+use Rattle.std.specs.Result.{result_unwrap_or}
 use Rattle.std.proofs.lemmas.List.{get_or-take, get_or-drop, length-take, length-drop, drop-set-add}
 use Rattle.std.proofs.lemmas.Bool.{lt-ltb, le-ltb, cases_lt}
 use Rattle.std.proofs.lemmas.Option.{slice_get_past, slice_get-get_or}
@@ -22,14 +23,11 @@ write_within xs i h = rw (lt-ltb i (length xs) h)
 pub write_past : {T : Type 0} (xs : List T) (i : ℕ) → length xs ≤ i → write_at xs i ≡ Err NoPlace
 write_past xs i h = rw (le-ltb i (length xs) h)
 
--- what a read has answered
-pub read_gave : {T : Type 0} (xs : List T) (i : ℕ) (x : T) → Ok x ≡ read_at xs i → (i < length xs) × ((d : T) → x ≡ get_or xs i d)
-read_gave [] i x e = absurd (never x NoPlace e)
-  where
-    never : {T E : Type 0} (x : T) (e : E) → ◌≡◌ {A = Result T E} (Ok x) (Err e) → ⊥
-    never x e p = let z : ◌≡◌ {A = ℕ} 0 1 = cc in omega arith
-read_gave (y ∷ ys) zero x e = (omega arith, λ d. cc)
-read_gave (y ∷ ys) (suc i) x e = let r = read_gave ys i x e in (omega arith, r.1)
+-- a read, or something else where it is refused
+pub read_or : {T : Type 0} (xs : List T) (i : ℕ) (d : T) → result_unwrap_or (read_at xs i) d ≡ get_or xs i d
+read_or [] i d = refl
+read_or (x ∷ xs) zero d = refl
+read_or (x ∷ xs) (suc i) d = read_or xs i d
 
 -- a read within the cells is not refused
 pub read_refused : {T : Type 0} (xs : List T) (i : ℕ) (e : Refusal) → Err e ≡ read_at xs i → i < length xs → ⊥

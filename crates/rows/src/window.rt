@@ -1,6 +1,7 @@
 // A row over a part of another row.
 ghost use Rattle.std.specs.Prelude.{◌≡◌, ℕ, ◌^◌, ◌<◌, length};
 ghost use Rattle.rows.specs.Cells.{window, Around, around};
+ghost use Rattle.rows.specs.Kept.{Kept};
 
 use crate::row::Row;
 use refusal::Refusal;
@@ -17,9 +18,7 @@ pub struct WindowRow<R: Row> {
 fn shown<R: Row>(row: &mut R, from: usize, most: usize) -> usize
     ensures value { result ≡ length (window from most (R.Row.cells row.old)) }
     ensures fits { length (R.Row.cells row.old) < 2 ^ 64 }
-    ensures same { R.Row.cells row.new ≡ R.Row.cells row.old }
-    ensures untouched { R.Row.stored row.new ≡ R.Row.stored row.old }
-    ensures beside { R.Row.outside row.new ≡ R.Row.outside row.old }
+    ensures kept { Kept R.Row row.old row.new }
 {
     let rest = row.count().saturating_sub(from);
     rest.min(most)

@@ -7,7 +7,7 @@ use rows::{FreeListEntry, InlineRow, SliceRow, WindowRow};
 use slotmap::{Plan, Rows};
 use std::process::Abort;
 
-const LINK: FreeListEntry = FreeListEntry {
+const OTHER_LINK: FreeListEntry = FreeListEntry {
     previous: 3,
     next: 3,
 };
@@ -62,7 +62,7 @@ fn as_expected(rt: &impl Abort, answers: &[Result<Answer<u32>, Refusal>]) {
 #[test]
 fn over_slices(rt: HostRuntime) {
     let mut index = [7; 5];
-    let mut links = [LINK; 6];
+    let mut links = [OTHER_LINK; 6];
     let mut values = [0; 4];
     let mut slots = [9; 4];
     let mut answers = [Ok(Answer::Done); 16];
@@ -88,7 +88,7 @@ fn inside_the_table(rt: HostRuntime) {
         Plan::new(4),
         Rows {
             index: InlineRow::filled(1),
-            links: InlineRow::filled(LINK),
+            links: InlineRow::filled(OTHER_LINK),
             values: InlineRow::filled(2),
             slots: InlineRow::filled(3),
         },
@@ -136,7 +136,7 @@ fn as_many_calls_as_places(rt: HostRuntime) {
         Plan::new(1),
         Rows {
             index: InlineRow::filled(1),
-            links: InlineRow::filled(LINK),
+            links: InlineRow::filled(OTHER_LINK),
             values: InlineRow::filled(2),
             slots: InlineRow::filled(3),
         },

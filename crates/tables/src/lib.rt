@@ -11,4 +11,11 @@ mod texture;
 #[cfg(test)]
 mod values;
 
+use rows::FreeListEntry;
 pub use texture::Texture;
+
+// What a row of links holds in a test before a table is made over it: no link of a free list.
+pub const LINK: FreeListEntry = FreeListEntry {
+    previous: 0,
+    next: 0,
+};

@@ -1,12 +1,8 @@
 // Plans that fit and that do not, and the table without keys.
+use crate::LINK;
 use refusal::Refusal;
-use rows::{FreeListEntry, InlineRow};
+use rows::InlineRow;
 use slotmap::{Plan, Rows, SlotMap};
-
-const LINK: FreeListEntry = FreeListEntry {
-    previous: 0,
-    next: 0,
-};
 
 #[test]
 fn a_plan_of_as_many_keys_as_cells(rt: HostRuntime) {

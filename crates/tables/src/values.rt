@@ -1,13 +1,9 @@
 // Kinds of value: voices, deadlines, and one without a byte form.
+use crate::LINK;
 use crate::texture::Texture;
 use codes::{Deadline, PackedRow, Voice};
-use rows::{FreeListEntry, InlineRow, SliceRow};
+use rows::{InlineRow, SliceRow};
 use slotmap::{Cursor, Plan, Rows, SlotMap};
-
-const LINK: FreeListEntry = FreeListEntry {
-    previous: 0,
-    next: 0,
-};
 
 const VOICE: Voice = Voice {
     first_sample: 4000,

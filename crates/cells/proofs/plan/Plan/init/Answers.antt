@@ -1,5 +1,7 @@
-use Rattle.std.proofs.Common.{length, refl, ap, arith}
+use Rattle.std.proofs.Common.{length, refl, ap, arith, rules}
 use Rattle.model.proofs.Fresh.{fresh_laid, fresh_least, fresh_beyond}
+use Rattle.model.specs.Fresh.{fresh_link}
+use Rattle.model.specs.Layouts.{nil}
 use Rattle.history.proofs.Reached.{reached_fresh}
 use Rattle.cells.proofs.plan.Plan.init.Goals as goal
 
@@ -8,7 +10,7 @@ returns-clause-cells g c =
     let over = c.capacity_over-capacity.ensures in
     let long = ap length over.slots.0 in
     fresh_laid c.capacity_over-capacity.result _ c.first_key.result _ _ _ _ _ _ _ _ _ _ _ _ _
-    over.value over.index.0 c.clear_index.ensures.after over.links.0 c.link_all.ensures.after over.values.0 c.first_key.ensures
+    over.value over.index.0 (c.write_all.ensures.after (λ _. nil) (λ k x post. search rules)) over.links.0 (c.write_all-2.ensures.after (fresh_link c.capacity_over-capacity.result) (λ k x post. search rules)) over.values.0 c.first_key.ensures
     (omega (arith, over.value)) refl over.slots.0 c.queue_all.ensures.after
 
 pub returns-clause-means : goal.returns-clause-means

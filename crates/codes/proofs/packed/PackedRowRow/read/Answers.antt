@@ -10,7 +10,7 @@ returns-then-place-whole-clause-value g c =
     let xs = g.B.Row.cells c.args.self.now.bytes in
     let w = g.K.Bytes.ByteArray.size in
     let item = g.K.Coded.item in
-    let string = c.gather.ensures.value ∙ ap (λ at. window at w (g.B.Row.cells c.whole.new.bytes)) (ap (λ n. c.args.place * n) (c.from.ensures ∙ c.width.ensures.value)) ∙ ap (window (c.args.place * w) w) c.whole.ensures.same in
+    let string = c.gather.ensures.value ∙ ap (λ at. window at w (g.B.Row.cells c.whole.new.bytes)) (ap (λ n. c.args.place * n) (c.from.ensures ∙ c.width.ensures.value)) ∙ ap (window (c.args.place * w) w) c.whole.ensures.kept.0 in
     ap Ok (c.decode.ensures ∙ ap item string) ∙ packed_read w item c.whole.ensures.some xs c.args.place (omega arith)
 
 pub returns-else-place-whole-clause-value : goal.returns-else-place-whole-clause-value

@@ -19,7 +19,7 @@ returns-then-place-whole-clause-bytes g c =
     let w = g.K.Bytes.ByteArray.size in
     c.scatter.ensures.after
     ∙ ap (λ at. paste (g.B.Row.cells c.whole.new.bytes) at (g.K.Bytes.ByteArray.list c.encode.result) w) (ap (λ n. c.args.place * n) (c.from.ensures ∙ c.width.ensures.value))
-    ∙ ap (λ ys. paste ys (c.args.place * w) (g.K.Bytes.ByteArray.list c.encode.result) w) c.whole.ensures.same
+    ∙ ap (λ ys. paste ys (c.args.place * w) (g.K.Bytes.ByteArray.list c.encode.result) w) c.whole.ensures.kept.0
     ∙ ap (λ s. paste xs (c.args.place * w) s w) c.encode.ensures.value
 
 pub returns-then-place-whole-clause-after : goal.returns-then-place-whole-clause-after
@@ -36,7 +36,7 @@ returns-then-place-whole-clause-beside g c =
     let xs = g.B.Row.cells c.args.self.now.bytes in
     let w = g.K.Bytes.ByteArray.size in
     ap (behind _ w) (returns-then-place-whole-clause-bytes g c)
-    ∙ behind_write w g.K.Coded.item c.whole.ensures.some xs c.args.place (g.K.Coded.bytes c.args.value) (omega arith) c.encode.ensures.width _ _ (c.scatter.ensures.beside ∙ c.whole.ensures.beside)
+    ∙ behind_write w g.K.Coded.item c.whole.ensures.some xs c.args.place (g.K.Coded.bytes c.args.value) (omega arith) c.encode.ensures.width _ _ (c.scatter.ensures.beside ∙ c.whole.ensures.kept.1)
 
 pub returns-else-place-whole-clause-value : goal.returns-else-place-whole-clause-value
 returns-else-place-whole-clause-value g c =
@@ -50,4 +50,4 @@ returns-else-place-whole-clause-after g c =
     let w = g.K.Bytes.ByteArray.size in
     let item = g.K.Coded.item in
     let count = length_packed w item c.whole.ensures.some xs in
-    ap (packed w item) c.whole.ensures.same ∙ sym (set_past (packed w item xs) c.args.place c.args.value (omega arith))
+    ap (packed w item) c.whole.ensures.kept.0 ∙ sym (set_past (packed w item xs) c.args.place c.args.value (omega arith))

@@ -9,5 +9,5 @@ returns-then-place-shown-clause-after g c =
     let from = c.args.self.now.from in
     let most = c.args.self.now.most in
     let shows = window_within from most c.args.place xs (omega arith) in
-    ap (window from most) (c.write.ensures.after ∙ ap (λ ys. set ys (from + c.args.place) c.args.value) c.shown.ensures.same)
+    ap (window from most) (c.write.ensures.after ∙ ap (λ ys. set ys (from + c.args.place) c.args.value) c.shown.ensures.kept.0)
     ∙ set_window from most c.args.place xs c.args.value shows.0
