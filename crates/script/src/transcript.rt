@@ -14,7 +14,7 @@ use std::fmt::Write;
 use text::LineReader;
 
 // The most bytes that a script has.
-const MOST_BYTES: usize = 65536;
+pub const MOST_BYTES: usize = 65536;
 
 impl Script<Keys> {
     // Carries out what was read of a line: its command, or how much of it begins a legal line.
