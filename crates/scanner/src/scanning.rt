@@ -7,12 +7,10 @@ ghost use Rattle.scanner.specs.Legal.{Legal, Shares, scanned};
 ghost use Rattle.scanner.specs.Leading.{Leads, NoneLeads, NumberAt, NoneAt};
 
 use crate::command::{Command, Kind};
+use text::MOST_DIGITS;
 
 // The byte before each number.
 const BLANK: u8 = b' ';
-
-// The most digits that a number is written with.
-const MOST_DIGITS: usize = 10;
 
 // The longest number that `text` begins with, and how many digits it has.
 fn leading_number(text: &[u8]) -> Option<(u32, usize)>

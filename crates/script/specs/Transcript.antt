@@ -1,5 +1,5 @@
 -- What is printed of a script, by the table's meaning.
-use Rattle.std.specs.Prelude.{◌≡◌, ℕ, ◌-◌, cond, List, [], ◌∷◌, ◌++◌, length, Ok, Err, codes, Result, OnOk, nat_le}
+use Rattle.std.specs.Prelude.{◌≡◌, ℕ, ◌-◌, cond, List, [], ◌∷◌, ◌++◌, length, Ok, Err, codes, Result, OnOk, nat_le, string_bytes}
 use Rattle.std.specs.List.{range_with_len, flat_map}
 use Rattle.std.specs.Option.{option_map, option_to_list}
 use Rattle.std.specs.declared.alloc.AllocError.{AllocError}
@@ -21,6 +21,7 @@ use Rattle.text.specs.Lines.{lines}
 use Rattle.scanner.specs.Legal.{scanned}
 use Rattle.scanner.specs.declared.command.Command.{Command}
 use Rattle.scanner.specs.declared.command.Command.TheVariants.{Make, Insert, InsertAt, Remove, Get, Replace, NextFreeKey, Len, List as Listing}
+use Rattle.script.specs.declared.commands.Script.{Script}
 
 -- the words of an answer to a call, or of its refusal
 abbrev pub call_said : Result (Answer ℕ) Refusal → List ℕ
@@ -81,10 +82,11 @@ printed t (line ∷ rest) = (line_said t (scanned line) ++ (10 ∷ [])) ++ print
 abbrev pub transcript : List ℕ → List ℕ
 transcript input = cond (nat_le (length input) 65536) (printed (fresh 0) (lines input)) (spelt (LineNotLegal 65536) ++ (10 ∷ []))
 
--- A step on a table with the cells l that leaves the cells l', and prints onto the bytes before: where memory did
--- not fail, it prints what is said of the table that l means, and l' means the table afterwards.
-abbrev pub Does : Layout ℕ → List ℕ → Result (Unit {0}) AllocError → List ℕ → Layout ℕ → (Table ℕ → List ℕ) → (Table ℕ → Table ℕ) → Type 0
-Does l before r printedNow l' text next = (t : Table ℕ) → Means l t → OnOk r ((printedNow ≡ before ++ text t) × Means l' (next t))
+-- A step of a script, whose table has the cells that `layout` gives: where memory did not fail, it prints what is
+-- said of the table that the cells before mean, and the cells after mean the table afterwards.
+abbrev pub Does : {T : Type 0} → (T → Layout ℕ) → Script T → Result (Unit {0}) AllocError → Script T → (Table ℕ → List ℕ) → (Table ℕ → Table ℕ) → Type 0
+Does layout old r new text next =
+    (t : Table ℕ) → Means (layout old.table) t → OnOk r ((string_bytes new.out ≡ string_bytes old.out ++ text t) × Means (layout new.table) (next t))
 
 -- the cells and registers of a script's table
 abbrev pub keys_layout : {row : _} → MetaSlotMap (InlineRow ℕ) (InlineRow FreeListEntry) (InlineRow ℕ) (InlineRow ℕ) ℕ row → Layout ℕ

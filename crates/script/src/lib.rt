@@ -4,4 +4,4 @@
 mod commands;
 mod transcript;
 
-pub use transcript::transcribe;
+pub use transcript::{MOST_BYTES, transcribe};

@@ -3,6 +3,3 @@
 
 #[cfg(test)]
 mod transcripts;
-
-// The most bytes that a script has.
-pub const MOST_BYTES: usize = 65536;

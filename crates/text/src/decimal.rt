@@ -5,7 +5,7 @@ ghost use Rattle.text.specs.Numbers.{number_of};
 use std::str;
 
 // The most digits that a number is written with.
-const MOST_DIGITS: usize = 10;
+pub const MOST_DIGITS: usize = 10;
 
 // The number that `line` writes, if it is 1 to 10 digits of value at most 4,294,967,295.
 pub fn number(line: &[u8]) -> Option<u32>

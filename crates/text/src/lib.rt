@@ -4,5 +4,5 @@
 mod decimal;
 mod lines;
 
-pub use decimal::number;
+pub use decimal::{MOST_DIGITS, number};
 pub use lines::LineReader;

@@ -3,7 +3,7 @@ ghost use Rattle.std.specs.Prelude.{◌≡◌, ◌<◌, ◌^◌, length};
 ghost use Rattle.text.specs.Lines.{lines, first_line, after_line};
 
 // The byte that ends a line.
-const LINE_END: u8 = 10;
+const LINE_END: u8 = b'\n';
 
 // What is left of a text that is read line by line.
 #[derive(Drop)]

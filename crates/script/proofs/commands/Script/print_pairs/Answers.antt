@@ -7,21 +7,21 @@ use Rattle.model.specs.Sound.{Means}
 use Rattle.model.specs.Tables.{step_answer}
 use Rattle.model.proofs.Steps.{first_below, first_from}
 use Rattle.script.proofs.Pairs.{pairs_first, pairs_dash, pairs_step, pairs_end}
-use Rattle.script.proofs.commands.print_pairs.Goals as goal
+use Rattle.script.proofs.commands.Script.print_pairs.Goals as goal
 
 pub loop-key-init : goal.loop-key-init
 loop-key-init g c =
     let step = c.in-Some.ensures in (
       step.same,
       λ t h.
-          pairs_first t 0 _ (c.in-Some.key, c.in-Some.value) (string_bytes c.args.out.now) _
+          pairs_first t 0 _ (c.in-Some.key, c.in-Some.value) (string_bytes c.args.self.now.out) (string_bytes c.write-2.new.self)
           ((step.means t h).0 ∙ ap (step_answer t) c.new-cursor.ensures) step.after c.in_ok-write.ensures.bytes,
     )
 
 -- the cursor goes on to a key that is not past the table
 pub loop-key-smaller : goal.loop-key-smaller
 loop-key-smaller g c =
-    let l = g.T.SlotMap.layout c.loop-key.table in
+    let l = g.T.SlotMap.layout c.loop-key.self.table in
     let p = c.loop-key.cursor.key in
     let step = c.in-Some-next.ensures in
     let held : ℕ → Option ℕ = λ k. result_unwrap_or (get_cells l k) None in
@@ -35,7 +35,7 @@ loop-key-preserved g c =
     let inv = c.loop-key.invariant in (
       step.same ∙ inv.0,
       λ t h.
-          pairs_step t c.loop-key.cursor.key _ (c.in-Some-next.key, c.in-Some-next.value) (string_bytes c.loop-key.out) _ _
+          pairs_step t c.loop-key.cursor.key _ (c.in-Some-next.key, c.in-Some-next.value) (string_bytes c.loop-key.self.out) (string_bytes c.write-in-Some-next.new.self) _
           (step.means t (subst (λ n. Means n t) (sym inv.0) h)).0 step.after c.in_ok-write-2.ensures.bytes (inv.1 t h),
     )
 
@@ -43,7 +43,7 @@ pub returns-in_default : goal.returns-in_default
 returns-in_default g c t h =
     let met = c.in_default.ensures.means t h in
     IfOk-weaker c.write.result _ _
-    (λ u done. (pairs_dash t 0 (string_bytes c.args.out.now) _ (met.0 ∙ ap (step_answer t) c.new-cursor.ensures) done, met.1))
+    (λ u done. (pairs_dash t 0 (string_bytes c.args.self.now.out) _ (met.0 ∙ ap (step_answer t) c.new-cursor.ensures) done, met.1))
     c.write.ensures.bytes
 
 pub returns : goal.returns
