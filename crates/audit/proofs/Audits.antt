@@ -1,5 +1,5 @@
 -- The parts of the audit together are what makes cells stand.
-use Rattle.std.proofs.Common.{◌≡◌, ℕ, ◌+◌, ◌-◌, ◌%◌, ◌<◌, ◌≤◌, Bool, false, List, get_or, replicate, Some, MatchBool, sym, refl, ap, ◌∙◌, subst, ⊎_elim, mod-lt, mod-eq_of_lt, zero-add, arith}
+use Rattle.std.proofs.Common.{◌≡◌, ℕ, ◌+◌, ◌-◌, ◌%◌, ◌<◌, ◌≤◌, Bool, false, List, get_or, replicate, Some, sym, refl, ap, ◌∙◌, subst, ⊎_elim, mod-lt, mod-eq_of_lt, zero-add, arith}
 use lib.ListN.{get_or-replicate}
 use Rattle.std.proofs.ByRecursion.{All-get_or, All-from_get_or}
 use Rattle.std.proofs.lemmas.Option.{slice_get-get_or}
@@ -13,7 +13,6 @@ use Rattle.model.proofs.Sums.{same_yes, same_no, sum_alike, sum_add, sum_ones, s
 use Rattle.model.proofs.FreeLists.{linked_below}
 use Rattle.model.proofs.Refines.{owned_sum, split_sum, shared_out}
 use Rattle.audit.specs.Parts.{Sized, Listed, Loose, bit, given, ring, Apart, Marked, Shared}
-use Rattle.audit.proofs.Calls.{when_like}
 use Rattle.audit.proofs.Sums.{sum_tight, count_sum, all_counted, counted_all}
 use Rattle.audit.proofs.Walks.{linked_all, linked_once}
 use Rattle.audit.proofs.Marks.{bit_small, given_yes, given_no, given_small}
@@ -94,7 +93,7 @@ module _ (xs : List ℕ) (q : QueueState ℕ) (n : ℕ) (small : q.capacity ≤ 
       }
 
 module _ {V : Type 0} (l : Layout V) where
-  stands_from : Sized l → Listed l.index l.links (capacity l) l.head l.slots.len
+  pub stands_from : Sized l → Listed l.index l.links (capacity l) l.head l.slots.len
       → Loose l.index l.links (capacity l) → Shared l.index l.slots l.len → Stands l
   stands_from z f o h =
       let C = capacity l in
@@ -170,12 +169,9 @@ module _ {V : Type 0} (l : Layout V) where
         omega (arith, sum_counts C ks (linked_all l.links C nil l.head ks h.free), sum_alike (λ k. count k ks) (vacant xs) C h.keys, split_sum xs C, h.counted, shared_out l (stored_table l ks) h),
       )
 
-  stands_shared : Stands l → Shared l.index l.slots l.len
+  pub stands_loose : Stands l → Loose l.index l.links (capacity l)
+  stands_loose (ks, h) = h.loose
+
+  pub stands_shared : Stands l → Shared l.index l.slots l.len
   stands_shared (ks, h) =
       record { slotted = h.slotted; counted = h.counted; queued = h.queued; apart = λ s b. omega (arith, h.shared s b) }
-
-  -- where all else stands, the slots decide
-  pub stands_tells : (b : Bool) → Sized l → Listed l.index l.links (capacity l) l.head l.slots.len
-      → Loose l.index l.links (capacity l)
-      → MatchBool b (Shared l.index l.slots l.len) (Shared l.index l.slots l.len → ⊥) → MatchBool b (Stands l) (Stands l → ⊥)
-  stands_tells b z f o h = when_like b (stands_from z f o) (λ none s. none (stands_shared s)) h

@@ -1,6 +1,5 @@
 // Whether cells and registers stand.
 ghost use Rattle.std.specs.Prelude.{◌≡◌, length, MatchBool, nat_le};
-ghost use Rattle.model.specs.Sound.{Stands};
 ghost use Rattle.audit.specs.Parts.{Sized};
 ghost use Rattle.rows.specs.Kept.{Kept};
 ghost use Rattle.audit.specs.Verdict.{layout_of, Verdict};
@@ -54,34 +53,9 @@ fn sizes_stand<X: Row<Item = u32>, L: Row<Item = FreeListEntry>, D: Row, Q: Row<
         && has_cells(slots, capacity)
 }
 
-// Whether the cells and registers stand.
-fn stands<X: Row<Item = u32>, L: Row<Item = FreeListEntry>, D: Row, Q: Row<Item = u32>>(
-    index: &mut X,
-    links: &mut L,
-    values: &mut D,
-    slots: &mut Q,
-    registers: Registers,
-) -> bool
-    ensures value { MatchBool result (Stands (layout_of registers (X.Row.cells index.old) (L.Row.cells links.old) (D.Row.cells values.old) (Q.Row.cells slots.old))) (Stands (layout_of registers (X.Row.cells index.old) (L.Row.cells links.old) (D.Row.cells values.old) (Q.Row.cells slots.old)) → ⊥) }
-    ensures index { Kept X.Row index.old index.new }
-    ensures links { Kept L.Row links.old links.new }
-    ensures values { Kept D.Row values.old values.new }
-    ensures slots { Kept Q.Row slots.old slots.new }
-{
-    if !sizes_stand(index, links, values, slots, registers) {
-        return false;
-    }
-    if !free_list_stands(index, links, registers) {
-        return false;
-    }
-    if !holding_keys_are_loose(index, links, registers.capacity) {
-        return false;
-    }
-    slots_stand(index, slots, registers)
-}
-
 // Audits a table by its registers and rows: accepts them where they stand, and refuses them
-// where they do not. Nothing changes. Four rows one by one, since a table lends its own fields.
+// where they do not. Nothing changes. Four rows one by one, here and above: a table lends its own fields, which have
+// the names of the Rust, and the rows of another caller may be on loan.
 pub fn audit<X: Row<Item = u32>, L: Row<Item = FreeListEntry>, D: Row, Q: Row<Item = u32>>(
     index: &mut X,
     links: &mut L,
@@ -95,7 +69,11 @@ pub fn audit<X: Row<Item = u32>, L: Row<Item = FreeListEntry>, D: Row, Q: Row<It
     ensures values { Kept D.Row values.old values.new }
     ensures slots { Kept Q.Row slots.old slots.new }
 {
-    if stands(index, links, values, slots, registers) {
+    if sizes_stand(index, links, values, slots, registers)
+        && free_list_stands(index, links, registers)
+        && holding_keys_are_loose(index, links, registers.capacity)
+        && slots_stand(index, slots, registers)
+    {
         Ok(())
     } else {
         Err(Refusal::AuditFailed)

@@ -22,7 +22,7 @@ pub struct Plan {
     capacity: u32,
 }
 
-// The capacity of a table over four rows: the least of what is asked for, 65,535 and the counts.
+// The capacity of a table over four rows, as `check` has them: the least of what is asked for, 65,535 and the counts.
 fn capacity_over<X: Row<Item = u32>, L: Row<Item = FreeListEntry>, D: Row, Q: Row<Item = u32>>(
     asked: u32,
     index: &mut X,
@@ -52,7 +52,8 @@ impl Plan {
     }
 
     // Whether these rows have a cell for each key; refused where they do not, or where more than
-    // 65,535 keys are asked for. Nothing changes. Four rows one by one, since they may be on loan.
+    // 65,535 keys are asked for. Nothing changes. Four rows one by one: a `Rows` would ask more of a caller, who may
+    // have them on loan.
     pub fn check<X: Row<Item = u32>, L: Row<Item = FreeListEntry>, D: Row, Q: Row<Item = u32>>(
         &self,
         index: &mut X,

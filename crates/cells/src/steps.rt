@@ -29,8 +29,9 @@ pub trait Steps {
 
     ghost stored: { Self → Stored };
 
-    // `len_impl`, `capacity_impl` and `audit_impl`, names of the Rust, are told by the cells; the trait with the
-    // calls adds what they mean, so that steps are out of reach where only calls are.
+    // `len_impl`, `capacity_impl`, `audit_impl` and `acquire_next_free_index`, names of the Rust, are told by the cells;
+    // the trait with the calls adds what they mean. With these four taken over by `SlotMap: Steps` every user of the
+    // calls would have the steps too.
 
     // How many keys hold something.
     fn len_impl(&self) -> u32

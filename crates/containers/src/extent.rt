@@ -1,7 +1,7 @@
 // How much a vector can hold, and how much it holds.
 ghost use Rattle.std.specs.Prelude.{◌≡◌, ◌-◌, ◌≤◌};
 
-// An extent that breaks the facts below cannot be made.
+// An extent that breaks the facts below cannot be made. Field by field below, as in `Position`.
 #[derive(Clone, Copy)]
 pub(crate) struct Extent {
     pub capacity: u32,

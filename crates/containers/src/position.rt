@@ -2,7 +2,7 @@
 ghost use Rattle.std.specs.Prelude.{◌≡◌, ◌+◌, ◌-◌, ◌%◌, ◌<◌, ◌≤◌};
 
 // `len` elements lie before place `start`, round the ring of `capacity` places. A position
-// that breaks the facts below cannot be made.
+// that breaks the facts below cannot be made. Field by field below: `..self` beside facts, tried, is not supported.
 #[derive(Clone, Copy)]
 pub(crate) struct Position {
     pub capacity: u32,

@@ -56,6 +56,7 @@ impl<R: Row> MetaQueue<R> {
         ensures untouched { R.Row.stored self.new.row ≡ R.Row.stored self.old.row }
         ensures beside { R.Row.outside self.new.row ≡ R.Row.outside self.old.row }
     {
+        // `as u32`, since an index below a length fits: with a `try_from` there would be one more case to refuse.
         if index < self.len() as usize {
             self.row.read(self.position.place_of(index as u32) as usize)
         } else {

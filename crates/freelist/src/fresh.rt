@@ -17,7 +17,8 @@ pub fn fresh_link(key: u32, capacity: u32) -> FreeListEntry
     FreeListEntry { previous, next }
 }
 
-// The free list's first key as a table's register holds it: key 0, or `NONE` where there is no key.
+// The free list's first key: key 0, or `NONE` where there is no key, since it goes to a register that is as a cell
+// (`MetaSlotMap`).
 pub fn first_key(capacity: u32) -> u32
     ensures { result ≡ key_of capacity 0 }
 {

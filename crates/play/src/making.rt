@@ -7,7 +7,8 @@ use history::{Answer, Call};
 use refusal::Refusal;
 use slotmap::SlotMap;
 
-// Makes a call.
+// Makes a call. A function of its own, so that what follows from the cells is proved once in `perform`, and not at each
+// of its seven ends. Calls are values, so that a history is a list of them, and are matched here.
 pub(crate) fn make<T: SlotMap>(
     table: &mut T,
     call: Call<T::Value>,

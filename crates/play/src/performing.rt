@@ -28,7 +28,7 @@ pub fn perform<T: SlotMap>(table: &mut T, call: Call<T::Value>) -> Result<Answer
 // Makes calls one after another, as many as `answers` has places, and answers how many it made; their
 // answers go to `answers`. A table that was reached by some history is then reached by that history and
 // these calls.
-// Both lists are the caller's, side by side: there is no heap.
+// Two lists side by side: the calls are only read, and the answers written.
 pub fn run<T: SlotMap>(
     table: &mut T,
     calls: &[Call<T::Value>],

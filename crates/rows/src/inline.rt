@@ -5,10 +5,13 @@ use crate::row::Row;
 use crate::slice::{element, store};
 use refusal::Refusal;
 
+// How many cells a row carries.
+const CELLS: usize = 64;
+
 // Sixty-four cells of any plain kind: an array, since there is no heap.
 #[derive(Clone, Copy)]
 pub struct InlineRow<T> {
-    cells: [T; 64],
+    cells: [T; CELLS],
 }
 
 impl<T: Copy> InlineRow<T> {
@@ -16,11 +19,13 @@ impl<T: Copy> InlineRow<T> {
     pub fn filled(cell: T) -> Self
         ensures { result.cells ≡ replicate 64 cell }
     {
-        InlineRow { cells: [cell; 64] }
+        InlineRow {
+            cells: [cell; CELLS],
+        }
     }
 
     // The cells.
-    pub fn into_array(self) -> [T; 64]
+    pub fn into_array(self) -> [T; CELLS]
         ensures { result ≡ self.cells }
     {
         self.cells

@@ -10,7 +10,8 @@ use history::Answer;
 use refusal::Refusal;
 use rows::Row;
 
-// Makes one call, and answers it as a list that may have so many elements does.
+// Makes one call, and answers it as a list that may have so many elements does. Calls are values, so that a run is a
+// list of them, and are matched here.
 pub fn perform<R: Row<Item = u32>>(
     queue: &mut MetaQueue<R>,
     call: QueueCall,

@@ -16,7 +16,8 @@ const BLANK: u8 = b' ';
 fn leading_number(text: &[u8]) -> Option<(u32, usize)>
     ensures { MatchOption result (NoneLeads text.now) (λ p. Leads text.now p.0 p.1) }
 {
-    // Number and digits grow together; in a fold over pairs the end of the digits would be one more case.
+    // Number and digits grow together. In a fold over pairs the end of the digits would be one more case; by `enumerate`
+    // the number would stand twice, in what is read so far and beside it.
     let mut number: u32 = 0;
     let mut digits = 0;
     for byte in text.iter().take(MOST_DIGITS) {

@@ -107,7 +107,7 @@ impl Script<Keys> {
     pub(crate) fn carry_out(&mut self, command: Command) -> Result<(), AllocError>
         ensures { Does keys_layout self.old result self.new (λ t. said_by t command) (λ t. table_after t command) }
     {
-        // A match and no conversion: two commands are no calls.
+        // A match, since `m` and `k` are no calls; and no conversion, since both types are of other crates.
         let call = match command {
             Command::Make(capacity) => return self.make_table(capacity),
             Command::Insert(value) => Call::Insert(value),

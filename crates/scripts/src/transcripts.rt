@@ -1,5 +1,5 @@
 // Scripts, and what they print.
-use script::{MOST_BYTES, transcribe};
+use script::transcribe;
 use std::process::Abort;
 use std::test::Fail;
 
@@ -46,7 +46,7 @@ fn a_full_table(rt: HostRuntime) -> Result<(), Fail> {
 
 #[test]
 fn inputs_as_long_as_may_be(rt: HostRuntime) -> Result<(), Fail> {
-    let input = [120; MOST_BYTES + 1];
-    prints(&rt, &input[0..MOST_BYTES], "refused 12 0\n")?;
+    let input = [120; 65537];
+    prints(&rt, &input[0..65536], "refused 12 0\n")?;
     prints(&rt, &input, "refused 12 65536\n")
 }

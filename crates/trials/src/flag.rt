@@ -21,7 +21,7 @@ impl Coded for Flag {
     }
 
     fn encode(self) -> [u8; 1] {
-        if self.set { [1] } else { [0] }
+        [u8::from(self.set)]
     }
 
     fn decode(string: [u8; 1]) -> Flag {

@@ -123,5 +123,5 @@ fn a_read_leaves_bytes_that_no_item_is_written_with(rt: HostRuntime) {
     assert_eq!(rt; row.read(0), Ok(Flag { set: true }));
     assert_eq!(rt; row.write(1, Flag { set: true }), Ok(()));
     let slice = row.into_row().into_slice();
-    assert!(rt; slice.len() == 2 && slice[0] == 2 && slice[1] == 1);
+    assert_eq!(rt; &*slice, [2, 1].as_slice());
 }

@@ -15,7 +15,7 @@ fn slice_row(rt: HostRuntime) {
     assert_eq!(rt; row.write(3, 0), Err(Refusal::NoPlace));
     assert_eq!(rt; row.write(usize::MAX, 0), Err(Refusal::NoPlace));
     let slice = row.into_slice();
-    assert!(rt; slice.len() == 3 && slice[0] == 11 && slice[1] == 20 && slice[2] == 30);
+    assert_eq!(rt; &*slice, [11, 20, 30].as_slice());
 }
 
 #[test]
@@ -23,7 +23,7 @@ fn the_callers_slice_holds_the_cells(rt: HostRuntime) {
     let mut numbers = [1, 2];
     assert_eq!(rt; store_number(&mut numbers, 1, 7), Ok(()));
     assert_eq!(rt; store_number(&mut numbers, 2, 9), Err(Refusal::NoPlace));
-    assert!(rt; numbers[0] == 1 && numbers[1] == 7);
+    assert_eq!(rt; numbers, [1, 7]);
     let mut none: [u32; 0] = [];
     assert_eq!(rt; store_number(&mut none, 0, 9), Err(Refusal::NoPlace));
 }
@@ -95,14 +95,15 @@ fn link_pairs_changed_in_the_callers_slice(rt: HostRuntime) -> Result<(), Fail> 
     let mut row = SliceRow::new(&mut links);
     assert_eq!(rt; row.count(), 1);
     let entry = row.read(0)?;
-    let linked = FreeListEntry {
-        previous: entry.previous,
-        next: 7,
-    };
+    let linked = FreeListEntry { next: 7, ..entry };
     assert_eq!(rt; row.write(0, linked), Ok(()));
     assert_eq!(rt; row.read(0), Ok(linked));
     assert_eq!(rt; row.write(1, linked), Err(Refusal::NoPlace));
     let slice = row.into_slice();
-    assert!(rt; slice.len() == 1 && slice[0].previous == NONE && slice[0].next == 7);
+    let cell = FreeListEntry {
+        previous: NONE,
+        next: 7,
+    };
+    assert_eq!(rt; &*slice, [cell].as_slice());
     Ok(())
 }

@@ -9,30 +9,20 @@ use runs::{QueueCall, perform};
 use std::process::Abort;
 use std::test::Fail;
 
-const CALLS: [QueueCall; 7] = [
-    QueueCall::Push(1),
-    QueueCall::Push(2),
-    QueueCall::Push(3),
-    QueueCall::Push(4),
-    QueueCall::PushWithOverflow(4),
-    QueueCall::Get(0),
-    QueueCall::Get(3),
-];
-
-const ANSWERS: [Result<Answer<u32>, Refusal>; 7] = [
-    Ok(Answer::Done),
-    Ok(Answer::Done),
-    Ok(Answer::Done),
-    Err(Refusal::NoSpace),
-    Ok(Answer::Value(Some(1))),
-    Ok(Answer::Number(2)),
-    Err(Refusal::PlacePastLength),
+const RUN: [(QueueCall, Result<Answer<u32>, Refusal>); 7] = [
+    (QueueCall::Push(1), Ok(Answer::Done)),
+    (QueueCall::Push(2), Ok(Answer::Done)),
+    (QueueCall::Push(3), Ok(Answer::Done)),
+    (QueueCall::Push(4), Err(Refusal::NoSpace)),
+    (QueueCall::PushWithOverflow(4), Ok(Answer::Value(Some(1)))),
+    (QueueCall::Get(0), Ok(Answer::Number(2))),
+    (QueueCall::Get(3), Err(Refusal::PlacePastLength)),
 ];
 
 // Makes the calls of the worked run, and holds each answer to the stated one.
 fn run<R: Row<Item = u32>>(rt: &impl Abort, queue: &mut MetaQueue<R>) {
-    for (call, answer) in CALLS.iter().zip(&ANSWERS) {
-        assert_eq!(rt; perform(queue, *call), *answer);
+    for (call, answer) in RUN {
+        assert_eq!(rt; perform(queue, call), answer);
     }
 }
 

@@ -22,19 +22,25 @@ fn churn<T: SlotMap<Value = u32>>(rt: &impl Abort, table: &mut T) {
     assert_eq!(rt; table.remove(u32::MAX), Err(Refusal::KeyPastTable));
 }
 
+// As in the tests of crate `tables`: a crate of their own for these lines would be no plainer.
 const LINK: FreeListEntry = FreeListEntry {
     previous: 0,
     next: 0,
 };
 
-#[test]
-fn four_keys_over_inline_rows(rt: HostRuntime) {
-    let mut rows = Rows {
+// Rows for up to 64 keys, before a table is made over them.
+fn zero_rows() -> Rows<InlineRow<u32>, InlineRow<FreeListEntry>, InlineRow<u32>, InlineRow<u32>> {
+    Rows {
         index: InlineRow::filled(0),
         links: InlineRow::filled(LINK),
         values: InlineRow::filled(0),
         slots: InlineRow::filled(0),
-    };
+    }
+}
+
+#[test]
+fn four_keys_over_inline_rows(rt: HostRuntime) {
+    let mut rows = zero_rows();
     let plan = Plan::new(4);
     assert_eq!(rt;
         plan.check(
@@ -73,12 +79,7 @@ fn four_keys_over_slices_and_packed_rows(rt: HostRuntime) {
 
 #[test]
 fn plans_that_do_not_fit(rt: HostRuntime) {
-    let mut rows = Rows {
-        index: InlineRow::filled(0),
-        links: InlineRow::filled(LINK),
-        values: InlineRow::filled(0),
-        slots: InlineRow::filled(0),
-    };
+    let mut rows = zero_rows();
     let plan = Plan::new(65);
     assert_eq!(rt;
         plan.check(

@@ -33,11 +33,11 @@ fn refusals_are_numbered_in_order(rt: HostRuntime) {
 fn refusals_in_words(rt: HostRuntime) -> Result<(), Fail> {
     let heap = rt.alloc();
     let plain = format!(in heap; "{}", Refusal::NoPlace)?;
-    assert!(rt; plain.as_str() == "refused 5");
+    assert_eq!(rt; plain.as_str(), "refused 5");
     let offset = format!(in heap; "{}", Refusal::ImageBroken(16))?;
-    assert!(rt; offset.as_str() == "refused 8 16");
+    assert_eq!(rt; offset.as_str(), "refused 8 16");
     let length = format!(in heap; "{}", Refusal::LineNotLegal(18446744073709551615))?;
-    assert!(rt; length.as_str() == "refused 12 18446744073709551615");
+    assert_eq!(rt; length.as_str(), "refused 12 18446744073709551615");
     Ok(())
 }
 
@@ -45,10 +45,10 @@ fn refusals_in_words(rt: HostRuntime) -> Result<(), Fail> {
 fn numbers_and_other_lines(rt: HostRuntime) -> Result<(), Fail> {
     let text = b"3\n\n4294967295\n4294967296\n00000000005\n0000000006\nx\n-1\n+1\n1 \n8";
     let printed = last_numbers(rt.alloc(), text)?;
-    assert!(rt; printed.out.as_str() == "3\n4294967295\n6\n8\n");
-    assert!(rt;
-        printed.err.as_str()
-            == "line 2: not a number\nline 4: not a number\nline 5: not a number\nline 7: not a number\nline 8: not a number\nline 9: not a number\nline 10: not a number\n"
+    assert_eq!(rt; printed.out.as_str(), "3\n4294967295\n6\n8\n");
+    assert_eq!(rt;
+        printed.err.as_str(),
+        "line 2: not a number\nline 4: not a number\nline 5: not a number\nline 7: not a number\nline 8: not a number\nline 9: not a number\nline 10: not a number\n"
     );
     Ok(())
 }

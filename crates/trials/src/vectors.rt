@@ -21,7 +21,7 @@ fn vector_of_two(rt: HostRuntime) {
     vec.clear();
     assert!(rt; vec.is_empty());
     let slice = vec.into_row().into_slice();
-    assert!(rt; slice.len() == 2 && slice[0] == 10 && slice[1] == 2);
+    assert_eq!(rt; &*slice, [10, 2].as_slice());
 }
 
 #[test]
