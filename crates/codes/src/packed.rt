@@ -70,7 +70,8 @@ impl<K: Coded, B: Row<Item = u8>> PackedRow<K, B> {
         ensures row { result ≡ self.bytes }
         ensures cells { B.Row.cells result ≡ B.Row.cells self.bytes }
     {
-        self.bytes
+        let PackedRow { bytes, .. } = self;
+        bytes
     }
 }
 

@@ -24,6 +24,7 @@ impl<R: Row> MetaQueue<R> {
     // An empty queue over all cells of `row`, or over the first 65,535 of them.
     pub fn new(row: R) -> Self
         ensures state { queue result ≡ empty (min 65535 (length (R.Row.cells row))) (R.Row.cells row) }
+        ensures untouched { R.Row.stored result.row ≡ R.Row.stored row }
         ensures beside { R.Row.outside result.row ≡ R.Row.outside row }
     {
         MetaQueue::with_capacity(row, u32::MAX)
@@ -33,6 +34,7 @@ impl<R: Row> MetaQueue<R> {
     // they are at most 65,535.
     pub fn with_capacity(mut row: R, capacity: u32) -> Self
         ensures state { queue result ≡ empty (min (min capacity 65535) (length (R.Row.cells row))) (R.Row.cells row) }
+        ensures untouched { R.Row.stored result.row ≡ R.Row.stored row }
         ensures beside { R.Row.outside result.row ≡ R.Row.outside row }
     {
         let capacity = fitting(capacity, row.count());
@@ -45,7 +47,8 @@ impl<R: Row> MetaQueue<R> {
         ensures row { result ≡ self.row }
         ensures cells { R.Row.cells result ≡ R.Row.cells self.row }
     {
-        self.row
+        let MetaQueue { row, .. } = self;
+        row
     }
 
     // The element `index` from the oldest; refused at or past the length.
@@ -106,6 +109,7 @@ impl<R: Row> MetaQueue<R> {
     pub fn clear(&mut self)
         ensures after { queue self.new ≡ cleared (queue self.old) }
         ensures holds { contents (queue self.new) ≡ [] }
+        ensures untouched { R.Row.stored self.new.row ≡ R.Row.stored self.old.row }
         ensures beside { R.Row.outside self.new.row ≡ R.Row.outside self.old.row }
     {
         self.position = self.position.cleared();

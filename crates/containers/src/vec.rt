@@ -24,6 +24,7 @@ impl<R: Row> MetaVec<R> {
     // An empty vector over all cells of `row`, or over the first 65,535 of them.
     pub fn new(mut row: R) -> Self
         ensures state { vector result ≡ record { capacity = min 65535 (length (R.Row.cells row)); len = 0; cells = R.Row.cells row } }
+        ensures untouched { R.Row.stored result.row ≡ R.Row.stored row }
         ensures beside { R.Row.outside result.row ≡ R.Row.outside row }
     {
         let capacity = fitting(u32::MAX, row.count());
@@ -36,7 +37,8 @@ impl<R: Row> MetaVec<R> {
         ensures row { result ≡ self.row }
         ensures cells { R.Row.cells result ≡ R.Row.cells self.row }
     {
-        self.row
+        let MetaVec { row, .. } = self;
+        row
     }
 
     // How many elements can be held.
@@ -91,6 +93,7 @@ impl<R: Row> MetaVec<R> {
     pub fn clear(&mut self)
         ensures after { vector self.new ≡ with (vector self.old) 0 (vector self.old).cells }
         ensures holds { contents (vector self.new) ≡ [] }
+        ensures untouched { R.Row.stored self.new.row ≡ R.Row.stored self.old.row }
         ensures beside { R.Row.outside self.new.row ≡ R.Row.outside self.old.row }
     {
         self.extent = self.extent.resized(0);

@@ -1,5 +1,6 @@
 -- A list of calls made one after another, by the cells.
 use Rattle.std.proofs.Common.{◌≡◌, ℕ, ◌+◌, ◌<◌, ◌≤◌, Bool, true, false, cond, List, [], ◌∷◌, ◌++◌, length, get_or, take, drop, set, is_ok, Some, None, Ok, Err, Option, Result, sym, refl, ap, ◌∙◌, subst, append_assoc, arith}
+use Rattle.std.specs.List.{AllByRecursion}
 use Rattle.std.proofs.lemmas.List.{take_more, drop_more, set_at, take_at, length-take}
 use Rattle.refusal.specs.declared.Refusal.{Refusal}
 use Rattle.model.specs.Checks.{insert_cells, insert_at_cells, stored_at, slot_of, remove_cells, get_cells, when_given}
@@ -9,7 +10,7 @@ use Rattle.history.specs.declared.calls.Call.TheVariants.{Insert, InsertAt, Remo
 use Rattle.history.specs.declared.calls.Answer.{Answer}
 use Rattle.history.specs.declared.calls.Answer.TheVariants.{Done}
 use Rattle.history.specs.Calls.{cells_answer, cells_after, cells_answers, cells_after_all}
-use Rattle.history.specs.Histories.{Event}
+use Rattle.history.specs.Histories.{Event, Idle}
 use Rattle.history.specs.Promise.{Reached, paired}
 use Rattle.history.proofs.Made.{reached_all}
 
@@ -80,12 +81,40 @@ run_more o l n cs xs ys zs i c a bc bx ec ea en ez il iy =
           ∙ ap (λ q. q ++ drop (i + 1) xs) (sym (answers_more o (take i cs) c) ∙ ap (cells_answers o) (sym t)),
     )
 
+-- the answers to the first n calls
+first_answers : {V : Type 0} (o : Layout V) (cs : List (Call V)) (xs ys : List (Result (Answer V) Refusal)) (n : ℕ)
+    → n ≤ length cs → ys ≡ cells_answers o (take n cs) ++ drop n xs → take n ys ≡ cells_answers o (take n cs)
+first_answers o cs xs ys n b ey =
+    let sized : length (cells_answers o (take n cs)) ≡ n = length_answers o (take n cs) ∙ length-take n cs ∙ omega arith in
+    ap (take n) ey ∙ take_at (cells_answers o (take n cs)) (drop n xs) n sized
+
+-- no call of the list changes anything
+abbrev pub Quiet : {V : Type 0} → Layout V → List (Call V) → Type 0
+Quiet o cs = AllByRecursion Idle (paired cs (cells_answers o cs))
+
+quiet_more : {V : Type 0} (o : Layout V) (cs : List (Call V)) (c : Call V)
+    → Quiet o (cs ++ (c ∷ [])) → Quiet o cs × Idle (record { call = c; answer = cells_answer (cells_after_all o cs) c })
+quiet_more o [] c h = (tt, h.0)
+quiet_more o (d ∷ cs) c h = let r = quiet_more (cells_after o d) cs c h.1 in ((h.0, r.0), r.1)
+
+pub run_quiet : {V : Type 0} (o l : Layout V) (cs : List (Call V)) (i : ℕ) (c : Call V) (a : Result (Answer V) Refusal)
+    → i < length cs → c ≡ get_or cs i c → l ≡ cells_after_all o (take i cs) → a ≡ cells_answer l c
+    → Quiet o (take (i + 1) cs) → Quiet o (take i cs) × Idle (record { call = c; answer = a })
+run_quiet {V} o l cs i c a bc ec el ea h =
+    let t : take (i + 1) cs ≡ take i cs ++ (c ∷ []) = take_more cs i c bc ∙ ap (λ d. take i cs ++ (d ∷ [])) (sym ec) in
+    let r = quiet_more o (take i cs) c (subst (Quiet o) t h) in
+    let e : cells_answer (cells_after_all o (take i cs)) c ≡ a = ap (λ m. cells_answer m c) (sym el) ∙ sym ea in
+    (r.0, subst (λ q. Idle {V = V} (record { call = c; answer = q })) e r.1)
+
+pub run_idle : {V : Type 0} (o : Layout V) (cs : List (Call V)) (xs ys : List (Result (Answer V) Refusal)) (n : ℕ)
+    → n ≤ length cs → ys ≡ cells_answers o (take n cs) ++ drop n xs → AllByRecursion Idle (paired (take n cs) (take n ys)) → Quiet o (take n cs)
+run_idle {V} o cs xs ys n b ey h = subst (λ q. AllByRecursion Idle (paired {V = V} (take n cs) q)) (first_answers o cs xs ys n b ey) h
+
 -- so the promise is carried on
 pub run_reached : {V : Type 0} (o l : Layout V) (cs : List (Call V)) (xs ys : List (Result (Answer V) Refusal)) (n C : ℕ) (h : List (Event V))
     → n ≤ length cs → l ≡ cells_after_all o (take n cs) → ys ≡ cells_answers o (take n cs) ++ drop n xs
     → Reached C h o → Reached C (h ++ paired (take n cs) (take n ys)) l
 run_reached o l cs xs ys n C h b el ey r =
-    let sized : length (cells_answers o (take n cs)) ≡ n = length_answers o (take n cs) ∙ length-take n cs ∙ omega arith in
-    let first : take n ys ≡ cells_answers o (take n cs) = ap (take n) ey ∙ take_at (cells_answers o (take n cs)) (drop n xs) n sized in
+    let first = first_answers o cs xs ys n b ey in
     subst (λ m. Reached C (h ++ paired (take n cs) (take n ys)) m) (sym el)
     (subst (λ q. Reached C (h ++ paired (take n cs) q) (cells_after_all o (take n cs))) (sym first) (reached_all C h o (take n cs) r))

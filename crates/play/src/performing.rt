@@ -1,5 +1,6 @@
 // Calls given as values, with the promise that they carry on.
 ghost use Rattle.std.specs.Prelude.{◌≡◌, List, [], ◌∷◌, ◌++◌, ℕ, ◌<◌, min, length, take, drop};
+ghost use Rattle.std.specs.List.{AllByRecursion};
 ghost use Rattle.model.specs.Layouts.{SameBeyond};
 ghost use Rattle.model.specs.Sound.{Follows};
 ghost use Rattle.history.specs.Calls.{answer_to, after, cells_answer, cells_after, cells_answers, cells_after_all};
@@ -38,6 +39,7 @@ pub fn run<T: SlotMap>(
     ensures value { answers.new ≡ cells_answers (T.SlotMap.layout table.old) (take result calls.now) ++ drop result answers.old }
     ensures after { T.SlotMap.layout table.new ≡ cells_after_all (T.SlotMap.layout table.old) (take result calls.now) }
     ensures beyond { SameBeyond (T.SlotMap.layout table.old) (T.SlotMap.layout table.new) }
+    ensures kept { AllByRecursion Idle (paired (take result calls.now) (take result answers.new)) → T.SlotMap.stored table.new ≡ T.SlotMap.stored table.old }
     ensures beside { T.SlotMap.outside table.new ≡ T.SlotMap.outside table.old }
     ensures reached { (C : ℕ) (h : List (Event T.Value)) → Reached C h (T.SlotMap.layout table.old) → Reached C (h ++ paired (take result calls.now) (take result answers.new)) (T.SlotMap.layout table.new) }
 {

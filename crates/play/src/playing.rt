@@ -2,7 +2,7 @@
 ghost use Rattle.std.specs.Prelude.{◌≡◌, ◌++◌, min, length, take, drop};
 ghost use Rattle.model.specs.Layouts.{SameBeyond};
 ghost use Rattle.model.specs.Tables.{fresh};
-ghost use Rattle.cells.specs.Over.{keys_over, bare_over, fresh_over};
+ghost use Rattle.slotmap.specs.Over.{keys_over, bare_over, fresh_over};
 ghost use Rattle.slotmap.specs.Laid.{laid};
 ghost use Rattle.history.specs.Calls.{answers_to, cells_after_all};
 ghost use Rattle.history.specs.Promise.{Reached, paired};

@@ -28,7 +28,8 @@ impl<T: Copy> InlineRow<T> {
     pub fn into_array(self) -> [T; CELLS]
         ensures { result ≡ self.cells }
     {
-        self.cells
+        let InlineRow { cells } = self;
+        cells
     }
 }
 

@@ -40,7 +40,8 @@ impl<R: Row> WindowRow<R> {
         ensures row { result ≡ self.row }
         ensures cells { R.Row.cells result ≡ R.Row.cells self.row }
     {
-        self.row
+        let WindowRow { row, .. } = self;
+        row
     }
 }
 

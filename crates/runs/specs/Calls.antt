@@ -1,5 +1,5 @@
 -- Calls of a queue of numbers by their meaning: a list of at most c elements, from the oldest.
-use Rattle.std.specs.Prelude.{ℕ, cond, List, [], ◌∷◌, ◌++◌, drop, is_ok, Ok, Result}
+use Rattle.std.specs.Prelude.{ℕ, Bool, true, false, cond, List, [], ◌∷◌, ◌++◌, drop, is_ok, Ok, Result}
 use Rattle.std.specs.List.{slice_get}
 use Rattle.std.specs.Option.{ok_or}
 use Rattle.refusal.specs.declared.Refusal.{Refusal}
@@ -11,6 +11,14 @@ use Rattle.history.specs.declared.calls.Answer.{Answer}
 use Rattle.history.specs.declared.calls.Answer.TheVariants.{Done, Value, Number}
 use Rattle.runs.specs.declared.calls.QueueCall.{QueueCall}
 use Rattle.runs.specs.declared.calls.QueueCall.TheVariants.{Push, PushWithOverflow, Pop, Peek, Get}
+
+-- calls that show an element, or let it go
+abbrev pub only_reads : QueueCall → Bool
+only_reads (Push v) = false
+only_reads (PushWithOverflow v) = false
+only_reads Pop = true
+only_reads Peek = true
+only_reads (Get i) = true
 
 -- what a call answers, and what the list is then
 abbrev pub answer_to : ℕ → List ℕ → QueueCall → Result (Answer ℕ) Refusal

@@ -1,3 +1,2 @@
 pub mod Calls
 pub mod Runs
-pub mod TableRuns

@@ -1,8 +1,8 @@
 // Calls given as values, made on a queue.
-ghost use Rattle.std.specs.Prelude.{◌≡◌};
+ghost use Rattle.std.specs.Prelude.{◌≡◌, true, false, is_ok};
 ghost use Rattle.containers.specs.Bounded.{Means};
 ghost use Rattle.containers.specs.Queues.{queue as state, contents, Backed};
-ghost use Rattle.runs.specs.Calls.{answer_to, held_after, cells_answer, cells_after};
+ghost use Rattle.runs.specs.Calls.{only_reads, answer_to, held_after, cells_answer, cells_after};
 
 use crate::calls::QueueCall;
 use containers::MetaQueue;
@@ -19,6 +19,8 @@ pub fn perform<R: Row<Item = u32>>(
     ensures value { result ≡ cells_answer (state queue.old) call }
     ensures after { state queue.new ≡ cells_after (state queue.old) call }
     ensures means { Means contents Backed (state queue.old) result (state queue.new) (λ xs. answer_to (state queue.old).capacity xs call) (λ xs. held_after (state queue.old).capacity xs call) }
+    ensures untouched { only_reads call ≡ true → R.Row.stored queue.new.row ≡ R.Row.stored queue.old.row }
+    ensures kept { is_ok result ≡ false → R.Row.stored queue.new.row ≡ R.Row.stored queue.old.row }
     ensures beside { R.Row.outside queue.new.row ≡ R.Row.outside queue.old.row }
 {
     Ok(match call {

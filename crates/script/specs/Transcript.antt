@@ -12,7 +12,7 @@ use Rattle.model.specs.Tables.{Table, fresh}
 use Rattle.rows.specs.declared.cell.FreeListEntry.{FreeListEntry}
 use Rattle.rows.specs.declared.inline.InlineRow.{InlineRow}
 use Rattle.slotmap.specs.Laid.{laid}
-use Rattle.cells.specs.declared.slotmap.MetaSlotMap.{MetaSlotMap}
+use Rattle.slotmap.specs.declared.table.MetaSlotMap.{MetaSlotMap}
 use Rattle.history.specs.Calls.{answer_to, after}
 use Rattle.history.specs.declared.calls.Call.TheVariants as call
 use Rattle.history.specs.declared.calls.Answer.{Answer}

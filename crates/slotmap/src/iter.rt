@@ -5,7 +5,7 @@ ghost use Rattle.model.specs.Sound.{Follows};
 ghost use Rattle.model.specs.Tables.{step_answer, step_after};
 
 use crate::slotmap::SlotMap;
-use cells::SlotMapKey;
+use crate::table::SlotMapKey;
 
 // The place where a walk goes on. The table is passed at each step, so that it can change between
 // two steps.

@@ -7,7 +7,8 @@ ghost use Rattle.audit.specs.Verdict.{Verdict};
 ghost use Rattle.model.specs.Tables.{insert_answer, insert_after, insert_at_answer, insert_at_after, get_answer, replace_after, remove_after, contains_answer, len_answer, step_answer};
 ghost use Rattle.std.proofs.Common.{rules};
 
-use cells::{SlotMapKey, Steps};
+use crate::steps::Steps;
+use crate::table::SlotMapKey;
 use refusal::Refusal;
 
 // A table with stable keys. Each contract says what the call answers and leaves by the cells, whatever

@@ -1,5 +1,5 @@
 use Rattle.history.proofs.Reached.{reached_from}
 use Rattle.history.proofs.histories_tell.Goals as goal
 
-pub returns : goal.returns
-returns g c C h l = reached_from C h l
+pub returns-clause-tell : goal.returns-clause-tell
+returns-clause-tell g c C h l = reached_from C h l

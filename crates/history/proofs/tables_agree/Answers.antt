@@ -1,5 +1,5 @@
 use Rattle.history.proofs.Made.{agree}
 use Rattle.history.proofs.tables_agree.Goals as goal
 
-pub returns : goal.returns
-returns g c C h l = agree C h l
+pub returns-clause-agree : goal.returns-clause-agree
+returns-clause-agree g c C h l = agree C h l

@@ -1,8 +1,8 @@
-use Rattle.std.proofs.Common.{◌≡◌, ℕ, ◌*◌, ◌^◌, ◌<◌, ◌++◌, length, get_or, take, drop, refl, ap, ◌∙◌, Fits, w64, arith, rules}
+use Rattle.std.proofs.Common.{◌≡◌, ℕ, ◌*◌, ◌^◌, ◌<◌, ◌++◌, length, get_or, take, drop, sym, refl, ap, ◌∙◌, subst, Fits, w64, arith, rules}
 use Rattle.std.proofs.lemmas.List.{length-take, get_or-take}
 use Rattle.model.specs.Layouts.{capacity}
 use Rattle.history.specs.Calls.{cells_answers, cells_after_all}
-use Rattle.history.proofs.Running.{call_size, beyond_more, run_more, run_reached}
+use Rattle.history.proofs.Running.{Quiet, call_size, beyond_more, run_more, run_quiet, run_idle, run_reached}
 use Rattle.play.proofs.performing.run.Goals as goal
 
 -- a place in a slice, by the bytes before it
@@ -34,6 +34,9 @@ loop-i-preserved g c =
       answered = more.1;
       sized = ap capacity made.after ∙ call_size l call.result ∙ inv.sized;
       beyond = beyond_more o l n inv.sized inv.beyond made.beyond;
+      kept = λ q.
+          let r = run_quiet o l calls i call.result c.perform.result (omega (arith, c.min-count.ensures)) item inv.after made.value q in
+          made.kept r.1 ∙ inv.kept r.0;
       beside = made.beside ∙ inv.beside;
     }
 
@@ -47,6 +50,13 @@ returns-clause-value g c =
     let all : c.loop-i.i ≡ c.min-count.result = omega (arith, c.min-count.ensures, length-take c.min-count.result c.args.calls.now) in
     c.loop-i.invariant.answered
     ∙ ap (λ i. cells_answers (g.T.SlotMap.layout c.args.table.now) (take i c.args.calls.now) ++ drop i c.args.answers.now) all
+
+pub returns-clause-kept : goal.returns-clause-kept
+returns-clause-kept g c idle =
+    let o = g.T.SlotMap.layout c.args.table.now in
+    let all : c.loop-i.i ≡ c.min-count.result = omega (arith, c.min-count.ensures, length-take c.min-count.result c.args.calls.now) in
+    let quiet = run_idle o c.args.calls.now c.args.answers.now c.loop-i.answers c.min-count.result (omega (arith, c.min-count.ensures)) (returns-clause-value g c) idle in
+    c.loop-i.invariant.kept (subst (λ i. Quiet o (take i c.args.calls.now)) (sym all) quiet)
 
 pub returns-clause-reached : goal.returns-clause-reached
 returns-clause-reached g c C h r =

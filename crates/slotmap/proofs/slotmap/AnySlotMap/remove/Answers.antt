@@ -1,6 +1,6 @@
 use Rattle.std.proofs.Common.{rules}
 use Rattle.model.proofs.Calls.{remove_follows}
-use Rattle.slotmap.proofs.Steps.{remove_steps}
+use Rattle.slotmap.proofs.Slots.{remove_steps}
 use Rattle.slotmap.proofs.slotmap.AnySlotMap.remove.Goals as goal
 
 pub returns-in_err-slot-clause-means : goal.returns-in_err-slot-clause-means

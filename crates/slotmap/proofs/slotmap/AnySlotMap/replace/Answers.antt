@@ -1,6 +1,6 @@
 use Rattle.std.proofs.Common.{rules}
 use Rattle.model.proofs.Calls.{replace_follows}
-use Rattle.slotmap.proofs.Steps.{replace_steps}
+use Rattle.slotmap.proofs.Slots.{replace_steps}
 use Rattle.slotmap.proofs.slotmap.AnySlotMap.replace.Goals as goal
 
 pub returns-in_err-slot-clause-means : goal.returns-in_err-slot-clause-means

@@ -4,10 +4,10 @@ ghost use Rattle.std.specs.Prelude.{◌≡◌, false, is_ok, if◌then◌else◌
 ghost use Rattle.model.specs.Checks.{slot_of, index_of, value_of, head_cells, vacate_answer, fillable, storable, store_answer, waiting};
 ghost use Rattle.model.specs.Layouts.{Layout, capacity, Legal, oldest_slot, claimed, released, given, rewritten, emptied_at};
 ghost use Rattle.audit.specs.Verdict.{Verdict};
-ghost use Rattle.cells.specs.Laid.{laid};
+ghost use Rattle.slotmap.specs.Laid.{laid};
 ghost use Rattle.std.proofs.Common.{rules};
 
-use crate::slotmap::{MetaSlotMap, SlotMapKey};
+use crate::table::{MetaSlotMap, SlotMapKey};
 use audit::{Registers, audit};
 use freelist::{check_claim, check_neighbour, link_first, link_of, unlink};
 use refusal::Refusal;

@@ -1,6 +1,6 @@
 use Rattle.std.proofs.Common.{◌≡◌, ℕ}
 use Rattle.model.specs.Fresh.{written}
-use Rattle.cells.proofs.fresh.write_all.Given as goal
+use Rattle.slotmap.proofs.fresh.write_all.Given as goal
 
 abbrev pub invariant-loop-key : goal.invariant-loop-key
 invariant-loop-key g l =

@@ -3,7 +3,7 @@ use Rattle.model.proofs.Fresh.{fresh_laid, fresh_least, fresh_beyond}
 use Rattle.model.specs.Fresh.{fresh_link}
 use Rattle.model.specs.Layouts.{nil}
 use Rattle.history.proofs.Reached.{reached_fresh}
-use Rattle.cells.proofs.plan.Plan.init.Goals as goal
+use Rattle.slotmap.proofs.plan.Plan.init.Goals as goal
 
 pub returns-clause-cells : goal.returns-clause-cells
 returns-clause-cells g c =

@@ -4,7 +4,7 @@ use Rattle.rows.specs.declared.cell.FreeListEntry.{FreeListEntry}
 use Rattle.rows.specs.declared.row.Row.{Ghosts}
 use Rattle.model.specs.Fresh.{size_over, bare, fresh_layout}
 use Rattle.model.specs.Layouts.{Layout}
-use Rattle.cells.specs.declared.slotmap.Rows.{Rows}
+use Rattle.slotmap.specs.declared.table.Rows.{Rows}
 
 -- how many keys a table over these rows has, where so many are asked for
 abbrev pub keys_over : {X L D Q V : Type 0} → Ghosts X ℕ → Ghosts L FreeListEntry → Ghosts D V → Ghosts Q ℕ → ℕ → Rows X L D Q → ℕ

@@ -5,12 +5,12 @@ ghost use Rattle.model.specs.Layouts.{SameBeyond};
 ghost use Rattle.model.specs.Sound.{Means};
 ghost use Rattle.model.specs.Tables.{fresh};
 ghost use Rattle.history.specs.Promise.{Reached};
-ghost use Rattle.cells.specs.Laid.{laid};
-ghost use Rattle.cells.specs.Over.{keys_over, bare_over, fresh_over};
+ghost use Rattle.slotmap.specs.Laid.{laid};
+ghost use Rattle.slotmap.specs.Over.{keys_over, bare_over, fresh_over};
 ghost use Rattle.rows.specs.Kept.{Kept};
 
 use crate::fresh::{queue_all, write_all};
-use crate::slotmap::{MetaSlotMap, Rows};
+use crate::table::{MetaSlotMap, Rows};
 use containers::fitting;
 use freelist::{first_key, fresh_link};
 use refusal::Refusal;

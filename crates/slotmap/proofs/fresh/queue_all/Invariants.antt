@@ -1,7 +1,7 @@
 use Rattle.std.proofs.Common.{◌≡◌}
 use Rattle.containers.specs.Queues.{queue}
 use Rattle.model.specs.Fresh.{slots_to}
-use Rattle.cells.proofs.fresh.queue_all.Given as goal
+use Rattle.slotmap.proofs.fresh.queue_all.Given as goal
 
 abbrev pub invariant-loop-slot : goal.invariant-loop-slot
 invariant-loop-slot g l =
