@@ -3,6 +3,7 @@ ghost use Rattle.std.specs.Prelude.{◌≡◌, ℕ, [], ◌∷◌, ◌++◌, IfO
 ghost use Rattle.model.specs.Tables.{fresh};
 ghost use Rattle.text.specs.Lines.{lines};
 ghost use Rattle.scanner.specs.Legal.{scanned};
+ghost use Rattle.script.specs.Answered.{AnswersCalls};
 ghost use Rattle.script.specs.Sessions.{begun, session_read, IsSession, Session};
 ghost use Rattle.script.specs.Steps.{Promised, Does, keys_layout};
 ghost use Rattle.script.specs.Transcript.{line_said, printed, transcript};
@@ -50,7 +51,8 @@ impl Script<Keys> {
 // What a script prints: a line for each line of `input`, which is carried out on a table that has no keys at
 // first; or one refusal where the input is too long.
 pub fn transcribe(heap: Global, input: &[u8]) -> Result<String, AllocError>
-    ensures { IfOk result (λ out. string_bytes out ≡ transcript input.now) }
+    ensures text { IfOk result (λ out. string_bytes out ≡ transcript input.now) }
+    ensures calls { IfOk result (λ out. AnswersCalls input.now (string_bytes out)) }
 {
     if input.len() > MOST_BYTES {
         return format!(in heap; "{}\n", Refusal::LineNotLegal(MOST_BYTES as u64));
