@@ -16,7 +16,7 @@ use std::fmt::Write;
 use text::LineReader;
 
 // The most bytes that a script has.
-pub const MOST_BYTES: usize = 65536;
+pub(crate) const MOST_BYTES: usize = 65536;
 
 impl Script<Keys> {
     // Carries out what was read of a line: its command, or how much of it begins a legal line.
