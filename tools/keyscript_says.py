@@ -4,12 +4,14 @@
 usage: python3 tools/keyscript_says.py < SCRIPT    what it must print
        python3 tools/keyscript_says.py --check     at the top of the repository: whether each stored run is right
        python3 tools/keyscript_says.py --write     writes the inputs and outputs of the two longest stored runs
+       python3 tools/keyscript_says.py --random N  runs ./keyscript on N inputs drawn at random
 
 It shares nothing with the program: a table is a dictionary and a list of free keys, and how much of a line begins a
 legal one is found by trying each beginning.
 """
 
 import random
+import subprocess
 import sys
 
 MOST_BYTES = 65536
@@ -173,8 +175,31 @@ def check_runs():
     return wrong
 
 
+def some_script(chance):
+    """Lines of all kinds, at times with one byte changed; or bytes that scripts are made of, and others."""
+    if chance.random() < 0.5:
+        return bytes(chance.choice(b"miargpnlk    \n\n\n0123456789456\t\r\xffx\0") for _ in range(chance.randrange(200)))
+    script = "".join(some_line(chance) + "\n" for _ in range(chance.randrange(60))).encode("latin-1")
+    if script and chance.random() < 0.3:
+        place = chance.randrange(len(script))
+        script = script[:place] + bytes([chance.randrange(256)]) + script[place + 1 :]
+    return script
+
+
+def try_random(count):
+    chance = random.Random(7)
+    for _ in range(count):
+        script = some_script(chance)
+        run = subprocess.run(["./keyscript"], input=script, capture_output=True)
+        if run.returncode or run.stdout.decode("latin-1") != transcript(script):
+            sys.exit(f"differs on {script}")
+    print(f"{count} alike")
+
+
 if __name__ == "__main__":
-    if sys.argv[1:] == ["--write"]:
+    if sys.argv[1:2] == ["--random"]:
+        try_random(int(sys.argv[2]))
+    elif sys.argv[1:] == ["--write"]:
         write_runs()
     elif sys.argv[1:] == ["--check"]:
         sys.exit(check_runs())
