@@ -1,12 +1,17 @@
 -- What is printed of a line that is a call.
-use Rattle.std.proofs.Common.{◌≡◌, ℕ, List, [], ◌∷◌, ◌++◌, length, None, Some, Option, sym, refl, ap, ◌∙◌, subst, append-nil, append_assoc}
+use Rattle.std.proofs.Common.{◌≡◌, ℕ, ◌<◌, List, [], ◌∷◌, ◌++◌, length, None, Some, Ok, Err, Option, nat_lt, sym, refl, ap, ◌∙◌, subst, append-nil, append_assoc, arith}
 use Rattle.std.specs.Option.{ok_or, option_and_then}
-use Rattle.std.proofs.lemmas.Bool.{le-leb, cond-true}
+use Rattle.std.proofs.lemmas.Bool.{le-leb, lt-ltb, cond-true}
+use Rattle.refusal.specs.declared.Refusal.TheVariants.{KeyPastTable}
+use Rattle.model.specs.Counts.{count}
 use Rattle.model.specs.Tables.{Table, fresh}
-use Rattle.history.specs.Calls.{answer_to}
-use Rattle.history.specs.Histories.{HandsOut}
+use Rattle.history.specs.Calls.{answer_of, answer_to, answers_to, after_all}
+use Rattle.history.specs.Histories.{Event, Holds, LastWrote, HandsOut}
+use Rattle.history.specs.Promise.{calls, answers}
+use Rattle.history.specs.declared.calls.Answer.TheVariants.{Value}
 use Rattle.history.specs.declared.calls.Call.{Call}
 use Rattle.history.specs.declared.calls.Call.TheVariants as call
+use Rattle.history.proofs.Keys.{told_holds, wrote_one}
 use Rattle.history.proofs.Told.{told_all}
 use Rattle.history.proofs.Hands.{hands_out}
 use Rattle.scanner.specs.Commands.{command_of}
@@ -54,6 +59,16 @@ reach read (line ∷ ls) s is =
           ∙ ap (λ u. (said ++ printed u ls) ++ printed (table_of r.0) later) (sym (table_read s (scanned line))),
     )
 
+-- what a get answers of a key that holds, by the calls and their answers
+get_last : (C : ℕ) (h : List (Event ℕ)) (k v : ℕ) → answers h ≡ answers_to (fresh C) (calls h) → k < C → Holds k h → LastWrote k v h
+    → answer_to (after_all (fresh C) (calls h)) (call.Get k) ≡ Ok (Value (Some v))
+get_last C h k v answered below holds wrote =
+    let t = after_all (fresh C) (calls h) in
+    let told = told_all C h answered in
+    let some = told_holds C h k (t.held k) (count k t.free) (told.keys k) holds in
+    ap (answer_of Value) (cond-true (nat_lt k t.capacity) (Ok (t.held k)) (Err KeyPastTable) (lt-ltb k t.capacity (omega (arith, told.size))))
+    ∙ ap (λ o. Ok (Value o)) (some.1 ∙ ap Some (wrote_one k some.0 v h some.2 wrote))
+
 answers_call : (before later : List (List ℕ)) (line : List ℕ) (c : Call ℕ) (s : Session) (out : List ℕ) → IsSession before s → call_in line ≡ Some c
     → out ≡ printed (fresh 0) before ++ printed (table_of s) (line ∷ later) → AnswersCall before s c out
 answers_call before later line c s out is is_call e =
@@ -64,6 +79,7 @@ answers_call before later line c s out is is_call e =
       said = e ∙ ap (λ q. printed (fresh 0) before ++ ((q ++ (10 ∷ [])) ++ printed (line_after t (scanned line)) later)) (said_read t line (command_of line) c is_call);
       table = refl;
       keys = λ v insert. subst (HandsOut s.capacity s.history) (sym (ap (answer_to t) insert)) (hands_out s.capacity s.history t (told_all s.capacity s.history is.answered));
+      values = λ k v get below holds wrote. ap (answer_to t) get ∙ get_last s.capacity s.history k v is.answered below holds wrote;
     }
 
 pub answers_calls : (input : List ℕ) → AnswersCalls input (transcript input)

@@ -29,9 +29,10 @@ table_of s = after_all (fresh s.capacity) (calls s.history)
 abbrev pub with_call : Session → Call ℕ → Session
 with_call s c = record { capacity = s.capacity; history = s.history ++ ((record { call = c; answer = answer_to (table_of s) c }) ∷ []) }
 
-abbrev pub with_calls : Session → Option (Call ℕ) → Session
-with_calls s None = s
-with_calls s (Some c) = with_call s c
+-- or none
+abbrev pub with_call_if : Session → Option (Call ℕ) → Session
+with_call_if s None = s
+with_call_if s (Some c) = with_call s c
 
 -- the call that a command is: `m` and `k` are none
 abbrev pub call_of : Command → Option (Call ℕ)
@@ -48,7 +49,7 @@ call_of Listing = None
 -- the session after a command: an accepted `m` begins a new one, a call is one call more, and nothing else changes it
 abbrev pub session_after : Session → Command → Session
 session_after s (Make C) = cond (nat_le C 64) (begun C) s
-session_after s c = with_calls s (call_of c)
+session_after s c = with_call_if s (call_of c)
 
 -- and after what was read of a line
 abbrev pub session_read : Session → Result Command ℕ → Session
@@ -63,10 +64,11 @@ Makes line C = (command_of line ≡ Some (Make C)) × (C ≤ 64)
 abbrev pub NoneMakes : List (List ℕ) → Type 0
 NoneMakes ls = AllByRecursion (λ line. (C : ℕ) → Makes line C → ⊥) ls
 
--- the call that a line is, if it is one; and the calls that lines are, in order
+-- the call that a line is, if it is one
 abbrev pub call_in : List ℕ → Option (Call ℕ)
 call_in line = option_and_then call_of (command_of line)
 
+-- the calls that lines are, in order
 abbrev pub calls_in : List (List ℕ) → List (Call ℕ)
 calls_in ls = flat_map (λ line. option_to_list (call_in line)) ls
 
