@@ -1,1 +1,4 @@
 pub mod Transcript
+pub mod Sessions
+pub mod Steps
+pub mod Answered

@@ -1,18 +1,11 @@
 -- What is printed of a script, by the table's meaning.
-use Rattle.std.specs.Prelude.{◌≡◌, ℕ, ◌-◌, cond, List, [], ◌∷◌, ◌++◌, length, Ok, Err, codes, Result, OnOk, nat_le, string_bytes}
+use Rattle.std.specs.Prelude.{ℕ, ◌-◌, cond, List, [], ◌∷◌, ◌++◌, length, Ok, Err, codes, Result, nat_le}
 use Rattle.std.specs.List.{range_with_len, flat_map}
 use Rattle.std.specs.Option.{option_map, option_to_list}
-use Rattle.std.specs.declared.alloc.AllocError.{AllocError}
 use Rattle.refusal.specs.Told.{spelt}
 use Rattle.refusal.specs.declared.Refusal.{Refusal}
 use Rattle.refusal.specs.declared.Refusal.TheVariants.{PlanTooLarge, LineNotLegal}
-use Rattle.model.specs.Layouts.{Layout}
-use Rattle.model.specs.Sound.{Means}
 use Rattle.model.specs.Tables.{Table, fresh}
-use Rattle.rows.specs.declared.cell.FreeListEntry.{FreeListEntry}
-use Rattle.rows.specs.declared.inline.InlineRow.{InlineRow}
-use Rattle.slotmap.specs.Laid.{laid}
-use Rattle.slotmap.specs.declared.table.MetaSlotMap.{MetaSlotMap}
 use Rattle.history.specs.Calls.{answer_to, after}
 use Rattle.history.specs.declared.calls.Call.TheVariants as call
 use Rattle.history.specs.declared.calls.Answer.{Answer}
@@ -21,7 +14,6 @@ use Rattle.text.specs.Lines.{lines}
 use Rattle.scanner.specs.Legal.{scanned}
 use Rattle.scanner.specs.declared.command.Command.{Command}
 use Rattle.scanner.specs.declared.command.Command.TheVariants.{Make, Insert, InsertAt, Remove, Get, Replace, NextFreeKey, Len, List as Listing}
-use Rattle.script.specs.declared.commands.Script.{Script}
 
 -- the words of an answer to a call, or of its refusal
 abbrev pub call_said : Result (Answer ℕ) Refusal → List ℕ
@@ -81,13 +73,3 @@ printed t (line ∷ rest) = (line_said t (scanned line) ++ (10 ∷ [])) ++ print
 -- what is printed of an input: at first the table has no keys; an input above 65,536 bytes is not read
 abbrev pub transcript : List ℕ → List ℕ
 transcript input = cond (nat_le (length input) 65536) (printed (fresh 0) (lines input)) (spelt (LineNotLegal 65536) ++ (10 ∷ []))
-
--- A step of a script, whose table has the cells that `layout` gives: where memory did not fail, it prints what is
--- said of the table that the cells before mean, and the cells after mean the table afterwards.
-abbrev pub Does : {T : Type 0} → (T → Layout ℕ) → Script T → Result (Unit {0}) AllocError → Script T → (Table ℕ → List ℕ) → (Table ℕ → Table ℕ) → Type 0
-Does layout old r new text next =
-    (t : Table ℕ) → Means (layout old.table) t → OnOk r ((string_bytes new.out ≡ string_bytes old.out ++ text t) × Means (layout new.table) (next t))
-
--- the cells and registers of a script's table
-abbrev pub keys_layout : {row : _} → MetaSlotMap (InlineRow ℕ) (InlineRow FreeListEntry) (InlineRow ℕ) (InlineRow ℕ) ℕ row → Layout ℕ
-keys_layout t = laid (λ r. r.cells) (λ r. r.cells) (λ r. r.cells) t

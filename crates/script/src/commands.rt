@@ -1,9 +1,9 @@
 // One command of a script, on the script's table.
 ghost use Rattle.std.specs.Prelude.{◌≡◌, [], length, string_bytes};
-ghost use Rattle.model.specs.Sound.{Means};
-ghost use Rattle.model.specs.Tables.{fresh};
-ghost use Rattle.history.specs.Calls.{answer_to, after};
-ghost use Rattle.script.specs.Transcript.{call_said, pairs_from, listed, said_by, table_after, Does, keys_layout};
+ghost use Rattle.history.specs.Calls.{answer_to};
+ghost use Rattle.script.specs.Sessions.{begun, with_call, session_after};
+ghost use Rattle.script.specs.Steps.{Promised, Does, keys_layout};
+ghost use Rattle.script.specs.Transcript.{call_said, pairs_from, listed, said_by};
 ghost use Rattle.scanner.specs.declared.command.Command.TheVariants.{Make};
 
 use history::Call;
@@ -47,7 +47,7 @@ pub(crate) struct Script<T> {
 impl<T: SlotMap<Value = u32>> Script<T> {
     // Makes a call, and prints its answer.
     fn answer_call(&mut self, call: Call<u32>) -> Result<(), AllocError>
-        ensures { Does T.SlotMap.layout self.old result self.new (λ t. call_said (answer_to t call)) (λ t. after t call) }
+        ensures { Does T.SlotMap.layout self.old result self.new (λ t. call_said (answer_to t call)) (λ s. with_call s call) }
     {
         match perform(&mut self.table, call) {
             Ok(answer) => write!(self.out, "{answer}"),
@@ -57,7 +57,7 @@ impl<T: SlotMap<Value = u32>> Script<T> {
 
     // Prints the pairs of the holding keys, parted by blanks, or a dash.
     fn print_pairs(&mut self) -> Result<(), AllocError>
-        ensures { Does T.SlotMap.layout self.old result self.new (λ t. listed (pairs_from t 0)) (λ t. t) }
+        ensures { Does T.SlotMap.layout self.old result self.new (λ t. listed (pairs_from t 0)) (λ s. s) }
     {
         let mut cursor = Cursor::new();
         let Some((key, value)) = cursor.next(&mut self.table) else {
@@ -75,7 +75,7 @@ impl Script<Keys> {
     // A script that is not begun: its table has no keys.
     pub(crate) fn new(heap: Global) -> Self
         ensures out { string_bytes result.out ≡ [] }
-        ensures table { Means (keys_layout result.table) (fresh 0) }
+        ensures table { Promised (begun 0) (keys_layout result.table) }
     {
         Script {
             out: String::new(heap),
@@ -85,7 +85,7 @@ impl Script<Keys> {
 
     // Makes the script a new table of `capacity` keys, at most 64; else the old one stays.
     fn make_table(&mut self, capacity: u32) -> Result<(), AllocError>
-        ensures { Does keys_layout self.old result self.new (λ t. said_by t (Make capacity)) (λ t. table_after t (Make capacity)) }
+        ensures { Does keys_layout self.old result self.new (λ t. said_by t (Make capacity)) (λ s. session_after s (Make capacity)) }
     {
         let mut rows = key_rows();
         let plan = Plan::new(capacity);
@@ -105,7 +105,7 @@ impl Script<Keys> {
 
     // Carries out a command, and prints what comes of it.
     pub(crate) fn carry_out(&mut self, command: Command) -> Result<(), AllocError>
-        ensures { Does keys_layout self.old result self.new (λ t. said_by t command) (λ t. table_after t command) }
+        ensures { Does keys_layout self.old result self.new (λ t. said_by t command) (λ s. session_after s command) }
     {
         // A match, since `m` and `k` are no calls; and no conversion, since both types are of other crates.
         let call = match command {

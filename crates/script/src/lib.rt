@@ -2,6 +2,8 @@
 #![tactic(auto)]
 
 mod commands;
+mod program;
 mod transcript;
 
-pub use transcript::{MOST_BYTES, transcribe};
+pub use program::run;
+pub use transcript::transcribe;

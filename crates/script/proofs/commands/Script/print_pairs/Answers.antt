@@ -6,6 +6,8 @@ use Rattle.model.specs.Layouts.{capacity}
 use Rattle.model.specs.Sound.{Means}
 use Rattle.model.specs.Tables.{step_answer}
 use Rattle.model.proofs.Steps.{first_below, first_from}
+use Rattle.script.specs.Sessions.{table_of}
+use Rattle.script.specs.Steps.{Promised}
 use Rattle.script.proofs.Pairs.{pairs_first, pairs_dash, pairs_step, pairs_end}
 use Rattle.script.proofs.commands.Script.print_pairs.Goals as goal
 
@@ -40,17 +42,18 @@ loop-key-preserved g c =
     )
 
 pub returns-in_default : goal.returns-in_default
-returns-in_default g c t h =
-    let met = c.in_default.ensures.means t h in
+returns-in_default g c s h =
+    let step = c.in_default.ensures in
+    let answered = (step.means (table_of s) h.means).0 in
     IfOk-weaker c.write.result _ _
-    (λ u done. (pairs_dash t 0 (string_bytes c.args.self.now.out) _ (met.0 ∙ ap (step_answer t) c.new-cursor.ensures) done, met.1))
+    (λ u done. (pairs_dash (table_of s) 0 (string_bytes c.args.self.now.out) _ (answered ∙ ap (step_answer (table_of s)) c.new-cursor.ensures) done, subst (Promised s) (sym step.same) h))
     c.write.ensures.bytes
 
 pub returns : goal.returns
-returns g c t h =
+returns g c s h =
     let step = c.in_default-next.ensures in
     let inv = c.loop-key.invariant in
-    let m = subst (λ n. Means n t) (sym inv.0) h in (
-      pairs_end t c.loop-key.cursor.key _ _ (step.means t m).0 (inv.1 t h),
-      (step.means t m).1,
+    let m = subst (λ n. Means n (table_of s)) (sym inv.0) h.means in (
+      pairs_end (table_of s) c.loop-key.cursor.key _ _ (step.means (table_of s) m).0 (inv.1 (table_of s) h.means),
+      subst (Promised s) (sym (step.same ∙ inv.0)) h,
     )
