@@ -94,3 +94,12 @@ pub data Breaks (bytes : List ℕ) (n : ℕ) : Type 0 where
   no_end : (h : Header) (es : List Entry) (rest : List ℕ) → Begins bytes h es rest → length es ≡ h.held → n ≡ ends_at h es → NoEnd rest → Breaks bytes n
   -- just past the end, where a byte stands
   no_stop : (h : Header) (es : List Entry) (b : ℕ) (rest : List ℕ) → Begins bytes h es (end_bytes ++ (b ∷ rest)) → length es ≡ h.held → n ≡ ends_at h es + length end_bytes → Breaks bytes n
+
+-- what bytes are: the image of these entries, or no image, since a rule is broken at this offset
+pub data Reading : Type 0 where
+  whole : ℕ → ℕ → List Entry → Reading
+  broken : ℕ → Reading
+
+abbrev pub Reads : List ℕ → Reading → Type 0
+Reads bytes (whole w C es) = Image bytes w C es
+Reads bytes (broken n) = Breaks bytes n

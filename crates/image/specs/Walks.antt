@@ -30,9 +30,13 @@ abbrev pub Holds : Stage → List ℕ → List Piece → Type 0
 Holds stage left [] = NoneComes stage left
 Holds stage left (p ∷ ps) = (next : Stage) × (rest : List ℕ) × Comes stage p next × (left ≡ piece_bytes p ++ rest) × Holds next rest ps
 
+-- the records that a walk has left
+abbrev pub Has : Records → List Piece → Type 0
+Has walk ps = Holds walk.stage walk.left.now ps
+
 -- what a call of `next` answers, and the walk after it
 pub record Steps (before : Records) (r : Option Record) (after : Records) : Type 0 where
   -- the record that comes next, and what follows it is left; or none where none comes, and the walk stays
   pub comes : MatchOption r (NoneComes before.stage before.left.now × (after ≡ before)) (λ x. Comes before.stage (piece x) after.stage × (before.left.now ≡ piece_bytes (piece x) ++ after.left.now))
-  -- the first of the records that the walk holds, and it holds the others; or none where it holds none
-  pub holds : (ps : List Piece) → Holds before.stage before.left.now ps → MatchOption r (ps ≡ []) (λ x. (qs : List Piece) × (ps ≡ piece x ∷ qs) × Holds after.stage after.left.now qs)
+  -- the first of the records that the walk has left, and it has the others left; or none where it has none
+  pub first : (ps : List Piece) → Has before ps → MatchOption r (ps ≡ []) (λ x. (qs : List Piece) × (ps ≡ piece x ∷ qs) × Has after qs)

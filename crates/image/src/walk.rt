@@ -4,7 +4,7 @@ ghost use Rattle.image.specs.declared.header.Header.{Header};
 ghost use Rattle.image.specs.declared.walk.Stage.TheVariants.{Start, Done};
 ghost use Rattle.image.specs.Format.{Entry, Image};
 ghost use Rattle.image.specs.Pieces.{piece, piece_bytes, pieces};
-ghost use Rattle.image.specs.Walks.{Comes, NoneComes, Holds, Small};
+ghost use Rattle.image.specs.Walks.{Comes, NoneComes, Small, Has};
 
 use crate::header::{Header, split_header};
 use crate::record::{Record, split_end, split_value};
@@ -66,7 +66,7 @@ impl<'a> Records<'a> {
     pub fn new(image: &'a [u8]) -> Self
         ensures stage { result.stage ≡ Start }
         ensures left { result.left.now ≡ image.now }
-        ensures holds { (w C : ℕ) (es : List Entry) → Image image.now w C es → Holds result.stage result.left.now (pieces w C es) }
+        ensures holds { (w C : ℕ) (es : List Entry) → Image image.now w C es → Has result (pieces w C es) }
     {
         Records {
             stage: Stage::Start,

@@ -5,7 +5,7 @@ use Rattle.image.proofs.walk.RecordsIterator.next.Goals as goal
 pub returns-in_err-record-clause-steps : goal.returns-in_err-record-clause-steps
 returns-in_err-record-clause-steps c = record {
   comes = search (rules, c.in_err-record.ensures);
-  holds = λ ps held. search (rules, none_held _ _ ps (c.in_err-record.ensures.comes) held);
+  first = λ ps held. search (rules, none_held _ _ ps (c.in_err-record.ensures.comes) held);
 }
 
 pub returns-clause-steps : goal.returns-clause-steps
@@ -13,5 +13,5 @@ returns-clause-steps c =
     let came = c.in_ok-record.ensures.comes in
     record {
       comes = came;
-      holds = λ ps held. first_held _ _ _ _ _ ps c.split.ensures.small came.0 came.1 held;
+      first = λ ps held. first_held _ _ _ _ _ ps c.split.ensures.small came.0 came.1 held;
     }
