@@ -1,3 +1,4 @@
 pub mod Readings
 pub mod Stops
 pub mod Uniqueness
+pub mod Longest

@@ -3,10 +3,13 @@ use Rattle.std.proofs.Common.{◌≡◌, ℕ, ◌+◌, ◌<◌, ◌≤◌, List,
 use Rattle.std.specs.List.{flat_map}
 use Rattle.std.proofs.lemmas.List.{append-nil}
 use Rattle.image.specs.declared.header.Header.{Header}
-use Rattle.image.specs.Format.{Entry, entry_bytes, end_bytes, header_of, Rising, past, NoEntry, Image, Begins, Breaks, no_header, no_value, no_end, no_stop}
+use Rattle.std.proofs.Common.{⊎_elim, inl, inr}
+use Rattle.std.specs.Prelude.{◌⊎◌}
+use Rattle.std.proofs.str.Laws.{order}
+use Rattle.image.specs.Format.{Reading, Reads, whole, broken, ends_at, NoHeader, NoEnd, Entry, entry_bytes, end_bytes, header_of, Rising, past, NoEntry, Image, Begins, Breaks, no_header, no_value, no_end, no_stop}
 use Rattle.image.proofs.Readings.{same_header, same_entry}
 use Rattle.image.proofs.Stops.{Answers}
-use Rattle.std.specs.Prelude.{Result, Ok, Err, IfOk, IfErr}
+use Rattle.std.specs.Prelude.{Result, Ok, Err, IfErr}
 use Rattle.refusal.specs.declared.Refusal.{Refusal}
 
 -- of two lists of entries at the front of the same bytes, the longer goes on where the shorter ends
@@ -75,13 +78,86 @@ one_reading bytes w C v D es ds image other =
     let held : length es ≡ length ds = ap (λ x. x.held) on.same in
     (on.same, on.joined ∙ none_more ds on.more (omega (arith, left_over _ _ es ds end_bytes on)))
 
--- so what is answered of the bytes holds of every reading
-pub only : (bytes : List ℕ) (r : Result Header Refusal) → Answers bytes r → IfOk r (λ h. (w C : ℕ) (es : List Entry) → Image bytes w C es → h ≡ header_of w C es)
-only bytes (Ok h) answers = λ w C es image.
-    ap (λ n. let k : Header = record { width = h.width; capacity = h.capacity; held = n } in k) answers.0.2
-    ∙ (one_reading bytes h.width h.capacity w C answers.0.0 es answers.0.1 image).0
-only bytes (Err e) answers = tt
+-- where entries at the front stop, and why a rule is broken there
+record Stops (k : Header) (ds : List Entry) (rest : List ℕ) (n : ℕ) : Type 0 where
+  most : length ds ≤ k.held
+  fewer : length ds < k.held → (n ≡ ends_at k ds) × NoEntry k (past 0 ds) rest
+  all : length ds ≡ k.held → ((n ≡ ends_at k ds) × NoEnd rest) ⊎ ((n ≡ ends_at k ds + 2) × (tail : List ℕ) × (rest ≡ end_bytes ++ tail))
 
+-- the same entries stop at one place
+stop_once : (k : Header) (ds : List Entry) (rest : List ℕ) (n m : ℕ) → Stops k ds rest n → Stops k ds rest m → n ≡ m
+stop_once k ds rest n m a b =
+    ⊎_elim
+    (λ lt. (a.fewer lt).0 ∙ sym (b.fewer lt).0)
+    (λ ge.
+    let full : length ds ≡ k.held = omega (arith, a.most) in
+    ⊎_elim
+    (λ p. ⊎_elim (λ q. p.0 ∙ sym q.0) (λ q. absurd (p.1 q.1 q.2)) (b.all full))
+    (λ p. ⊎_elim (λ q. absurd (q.1 p.1 p.2)) (λ q. p.0 ∙ sym q.0) (b.all full))
+    (a.all full))
+    (order (length ds) k.held)
+
+-- and of two lists the shorter stops only where both are one
+stop_together : (bytes : List ℕ) (k : Header) (es ds more : List Entry) (r s : List ℕ) (m n : ℕ) → Stops k es r m → Stops k ds s n → es ≡ ds ++ more → Rising k (past 0 ds) more → s ≡ flat_map entry_bytes more ++ r → m ≡ n
+stop_together bytes k es ds [] r s m n a b joined rising stands =
+    stop_once k ds s m n (subst (λ x. Stops k ds x m) (sym stands) (subst (λ x. Stops k x r m) (joined ∙ append-nil ds) a)) b
+stop_together bytes k es ds (x ∷ more) r s m n a b joined rising stands =
+    let lt : length ds < k.held = omega (arith, a.most, ap length joined ∙ length-append ds (x ∷ more)) in
+    absurd ((b.fewer lt).1 x (flat_map entry_bytes more ++ r) rising.0 (stands ∙ append_assoc (entry_bytes x) (flat_map entry_bytes more) r))
+
+-- what breaks a rule behind a header
+record Behind (bytes : List ℕ) (n : ℕ) : Type 0 where
+  header : Header
+  entries : List Entry
+  rest : List ℕ
+  begins : Begins bytes header entries rest
+  stops : Stops header entries rest n
+
+behind : (bytes : List ℕ) (n : ℕ) → Breaks bytes n → ((n ≡ 0) × NoHeader bytes) ⊎ Behind bytes n
+behind bytes n (no_header at none) = inl (at, none)
+behind bytes n (no_value k ds rest begins fewer at none) =
+    inr (record { header = k; entries = ds; rest = rest; begins = begins; stops = record { most = omega arith; fewer = λ lt. (at, none); all = λ e. absurd (omega arith) } })
+behind bytes n (no_end k ds rest begins full at none) =
+    inr (record { header = k; entries = ds; rest = rest; begins = begins; stops = record { most = omega arith; fewer = λ lt. absurd (omega arith); all = λ e. inl (at, none) } })
+behind bytes n (no_stop k ds b rest begins full at) =
+    inr (record { header = k; entries = ds; rest = end_bytes ++ (b ∷ rest); begins = begins; stops = record { most = omega arith; fewer = λ lt. absurd (omega arith); all = λ e. inr (at, b ∷ rest, refl) } })
+
+-- two stops behind headers of one string of bytes
+behind_once : (bytes : List ℕ) (m n : ℕ) → Behind bytes m → Behind bytes n → m ≡ n
+behind_once bytes m n a b =
+    let h = a.header in
+    let es = a.entries in
+    let ds = b.entries in
+    let same = same_header h b.header (flat_map entry_bytes es ++ a.rest) (flat_map entry_bytes ds ++ b.rest) a.begins.legal b.begins.legal (sym a.begins.stand ∙ b.begins.stand) in
+    let rising : Rising h 0 ds = subst (λ x. Rising x 0 ds) (sym same.0) b.begins.rising in
+    let stops : Stops h ds b.rest n = subst (λ x. Stops x ds b.rest n) (sym same.0) b.stops in
+    ⊎_elim
+    (λ lt.
+    let front = same_front h 0 ds es b.rest a.rest a.begins.legal.capacity rising a.begins.rising (omega arith) (sym same.1) in
+    sym (stop_together bytes h ds es front.0 b.rest a.rest n m stops a.stops front.1 front.2 front.3))
+    (λ ge.
+    let front = same_front h 0 es ds a.rest b.rest a.begins.legal.capacity a.begins.rising rising ge same.1 in
+    stop_together bytes h es ds front.0 a.rest b.rest m n a.stops stops front.1 front.2 front.3)
+    (order (length es) (length ds))
+
+-- bytes break a rule at one offset
+pub one_offset : (bytes : List ℕ) (m n : ℕ) → Breaks bytes m → Breaks bytes n → m ≡ n
+one_offset bytes m n a b =
+    ⊎_elim
+    (λ p. ⊎_elim (λ q. p.0 ∙ sym q.0) (λ q. absurd (p.1 q.header _ q.begins.legal q.begins.stand)) (behind bytes n b))
+    (λ p. ⊎_elim (λ q. absurd (q.1 p.header _ p.begins.legal p.begins.stand)) (λ q. behind_once bytes m n p q) (behind bytes n b))
+    (behind bytes m a)
+
+-- bytes have one reading
+pub one_reads : (bytes : List ℕ) (r s : Reading) → Reads bytes r → Reads bytes s → r ≡ s
+one_reads bytes (whole w C es) (whole v D ds) a b =
+    let same = one_reading bytes w C v D es ds a b in
+    ap (λ (h : Header). whole h.width h.capacity es) same.0 ∙ ap (whole v D) same.1
+one_reads bytes (whole w C es) (broken n) a b = absurd (unbroken bytes n w C es b a)
+one_reads bytes (broken m) (whole v D ds) a b = absurd (unbroken bytes m v D ds a b)
+one_reads bytes (broken m) (broken n) a b = ap broken (one_offset bytes m n a b)
+
+-- so bytes that are refused are no image
 pub refused : (bytes : List ℕ) (r : Result Header Refusal) → Answers bytes r → IfErr r (λ e. (w C : ℕ) (es : List Entry) → Image bytes w C es → ⊥)
 refused bytes (Ok h) answers = tt
 refused bytes (Err e) answers = λ w C es image. unbroken bytes answers.1.0 w C es answers.1.2 image

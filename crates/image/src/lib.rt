@@ -8,5 +8,5 @@ mod walk;
 
 pub use header::{FORM, HEADER_MARKS, Header};
 pub use record::{END_MARKS, Record};
-pub use validity::validate;
+pub use validity::{MOST_BYTES, validate};
 pub use walk::Records;

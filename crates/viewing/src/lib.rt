@@ -4,4 +4,5 @@
 mod lines;
 mod view;
 
-pub use view::{MOST_BYTES, print_image};
+pub use image::MOST_BYTES;
+pub use view::print_image;

@@ -9,9 +9,6 @@ use image::{Records, validate};
 use refusal::Refusal;
 use std::alloc::{AllocError, Global};
 
-// The most bytes that an image has: a header, 65,535 value records of the greatest width, and the end.
-pub const MOST_BYTES: usize = 8 + 65535 * (4 + 255) + 2;
-
 // The line of a refusal.
 fn refusal_line(heap: Global, refusal: Refusal) -> Result<String, AllocError>
     ensures { IfOk result (λ out. string_bytes out ≡ spelt refusal ++ codes "\n") }

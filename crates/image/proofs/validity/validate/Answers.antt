@@ -1,6 +1,7 @@
 use Rattle.std.proofs.Common.{length, sym, ap, ◌∙◌, ◌-◌}
 use Rattle.image.proofs.Stops.{went_on, stopped, answered, Answers}
-use Rattle.image.proofs.Uniqueness.{only, refused}
+use Rattle.image.proofs.Uniqueness.{refused, one_reads}
+use Rattle.image.proofs.Longest.{read_alike}
 use Rattle.image.proofs.validity.validate.Goals as goal
 use Rattle.image.proofs.validity.validate.Goals.{After-ok_or}
 
@@ -19,8 +20,11 @@ returns-clause-accepted c = (answers c).0
 pub returns-clause-broken : goal.returns-clause-broken
 returns-clause-broken c = (answers c).1
 
-pub returns-clause-only : goal.returns-clause-only
-returns-clause-only c = only _ _ (answers c)
-
 pub returns-clause-refused : goal.returns-clause-refused
 returns-clause-refused c = refused _ _ (answers c)
+
+pub returns-clause-one : goal.returns-clause-one
+returns-clause-one c = one_reads c.args.image.now
+
+pub returns-clause-longer : goal.returns-clause-longer
+returns-clause-longer c r more = read_alike c.args.image.now more r
