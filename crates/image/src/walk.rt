@@ -55,7 +55,7 @@ impl Stage {
 }
 
 // What is left of the records of an image.
-#[derive(Clone, Copy, PartialEq, Eq, Debug)]
+#[derive(Debug, Drop)]
 pub struct Records<'a> {
     stage: Stage,
     left: &'a [u8],
