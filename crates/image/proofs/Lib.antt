@@ -1,0 +1,4 @@
+pub mod Readings
+pub mod Stops
+pub mod Uniqueness
+pub mod Longest
