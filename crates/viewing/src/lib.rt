@@ -2,7 +2,8 @@
 #![tactic(auto)]
 
 mod lines;
+mod program;
 mod view;
 
-pub use image::MOST_BYTES;
+pub use program::run;
 pub use view::print_image;
