@@ -13,6 +13,8 @@ use Rattle.history.specs.declared.calls.Answer.{Answer}
 use Rattle.history.specs.declared.calls.Answer.TheVariants.{Done, Key, Value, Flag, Number}
 use Rattle.runs.specs.declared.calls.QueueCall.{QueueCall}
 use Rattle.runs.specs.declared.calls.QueueCall.TheVariants.{Push, PushWithOverflow, Get}
+use Rattle.image.specs.Format.{Reading, whole, broken, Reads}
+use Rattle.image.specs.Pieces.{entry}
 use Rattle.runs.specs.Calls.{answers_to}
 
 -- a worked run, with what came of it
@@ -25,6 +27,8 @@ pub data Run : Type 0 where
   window_run : (cells from most shown : ℕ) → Run
   -- a fresh table of so many keys answers these calls so, whatever rows it stands on
   table_run : (capacity : ℕ) (calls : List (Call ℕ)) (answers : List (Result (Answer ℕ) Refusal)) → Run
+  -- these bytes read so, as an image or as bytes that break a rule at an offset
+  image_run : (bytes : List ℕ) (reading : Reading) → Run
 
 -- the run holds, by the definitions that the calls' contracts use
 abbrev pub Holds : Run → Type 0
@@ -32,6 +36,7 @@ Holds (queue_run capacity calls answers) = answers_to capacity [] calls ≡ answ
 Holds (packed_run bytes cells) = (string : List ℕ) → length string ≡ bytes → length (packed 4 (λ s. little_at 4 s 0) string) ≡ cells
 Holds (window_run cells from most shown) = (row : List ℕ) → length row ≡ cells → length (window from most row) ≡ shown
 Holds (table_run capacity calls answers) = table_answers (fresh capacity) calls ≡ answers
+Holds (image_run bytes reading) = Reads bytes reading
 
 -- the worked runs
 abbrev pub runs : List Run
@@ -61,4 +66,10 @@ runs =
     ∷ (table_run 3
     (call.InsertAt 2 5 ∷ (call.InsertAt 3 6 ∷ (call.Remove 3 ∷ (call.Replace 3 6 ∷ (call.Get 3 ∷ (call.Contains 3 ∷ (call.Get 2 ∷ [])))))))
     (Ok Done ∷ (Err KeyPastTable ∷ (Err KeyPastTable ∷ (Err KeyPastTable ∷ (Err KeyPastTable ∷ (Err KeyPastTable ∷ (Ok (Value (Some 5)) ∷ [])))))))
-    ∷ [])))))))
+    -- three keys, of which key 1 holds the number 7
+    ∷ (image_run (0x53 ∷ 0x4D ∷ 0x01 ∷ 0x04 ∷ 0x03 ∷ 0x00 ∷ 0x01 ∷ 0x00 ∷ 0x53 ∷ 0x56 ∷ 0x01 ∷ 0x00 ∷ 0x07 ∷ 0x00 ∷ 0x00 ∷ 0x00 ∷ 0x53 ∷ 0x45 ∷ [])
+    (whole 4 3 (entry 1 (0x07 ∷ 0x00 ∷ 0x00 ∷ 0x00 ∷ []) ∷ []))
+    -- and less its last byte
+    ∷ (image_run (0x53 ∷ 0x4D ∷ 0x01 ∷ 0x04 ∷ 0x03 ∷ 0x00 ∷ 0x01 ∷ 0x00 ∷ 0x53 ∷ 0x56 ∷ 0x01 ∷ 0x00 ∷ 0x07 ∷ 0x00 ∷ 0x00 ∷ 0x00 ∷ 0x53 ∷ [])
+    (broken 16)
+    ∷ [])))))))))

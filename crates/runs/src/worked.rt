@@ -8,5 +8,5 @@ pub fn worked_runs() -> usize
     ensures count { result ≡ length runs }
     ensures hold { AllByRecursion Holds runs }
 {
-    8
+    10
 }
