@@ -1,5 +1,5 @@
 -- The table of worked runs, of rows, of the queue and of the table with stable keys, and what it means that a run holds.
-use Rattle.std.specs.Prelude.{◌≡◌, ℕ, true, List, [], ◌∷◌, length, Some, None, Ok, Err, Result}
+use Rattle.std.specs.Prelude.{◌≡◌, ℕ, true, List, [], ◌∷◌, length, take, Some, None, Ok, Err, Result}
 use Rattle.refusal.specs.declared.Refusal.{Refusal}
 use Rattle.refusal.specs.declared.Refusal.TheVariants.{NoSpace, PlacePastLength, KeyPastTable}
 use Rattle.rows.specs.Cells.{window}
@@ -13,7 +13,7 @@ use Rattle.history.specs.declared.calls.Answer.{Answer}
 use Rattle.history.specs.declared.calls.Answer.TheVariants.{Done, Key, Value, Flag, Number}
 use Rattle.runs.specs.declared.calls.QueueCall.{QueueCall}
 use Rattle.runs.specs.declared.calls.QueueCall.TheVariants.{Push, PushWithOverflow, Get}
-use Rattle.image.specs.Format.{Reading, whole, broken, Reads}
+use Rattle.image.specs.Format.{Entry, Reading, whole, broken, Reads}
 use Rattle.image.specs.Pieces.{entry}
 use Rattle.runs.specs.Calls.{answers_to}
 
@@ -37,6 +37,13 @@ Holds (packed_run bytes cells) = (string : List ℕ) → length string ≡ bytes
 Holds (window_run cells from most shown) = (row : List ℕ) → length row ≡ cells → length (window from most row) ≡ shown
 Holds (table_run capacity calls answers) = table_answers (fresh capacity) calls ≡ answers
 Holds (image_run bytes reading) = Reads bytes reading
+
+-- key 1 holds the number 7; and the bytes of this, of three keys
+abbrev pub seven : List Entry
+seven = entry 1 (0x07 ∷ 0x00 ∷ 0x00 ∷ 0x00 ∷ []) ∷ []
+
+abbrev pub seven_image : List ℕ
+seven_image = 0x53 ∷ 0x4D ∷ 0x01 ∷ 0x04 ∷ 0x03 ∷ 0x00 ∷ 0x01 ∷ 0x00 ∷ 0x53 ∷ 0x56 ∷ 0x01 ∷ 0x00 ∷ 0x07 ∷ 0x00 ∷ 0x00 ∷ 0x00 ∷ 0x53 ∷ 0x45 ∷ []
 
 -- the worked runs
 abbrev pub runs : List Run
@@ -66,10 +73,9 @@ runs =
     ∷ (table_run 3
     (call.InsertAt 2 5 ∷ (call.InsertAt 3 6 ∷ (call.Remove 3 ∷ (call.Replace 3 6 ∷ (call.Get 3 ∷ (call.Contains 3 ∷ (call.Get 2 ∷ [])))))))
     (Ok Done ∷ (Err KeyPastTable ∷ (Err KeyPastTable ∷ (Err KeyPastTable ∷ (Err KeyPastTable ∷ (Err KeyPastTable ∷ (Ok (Value (Some 5)) ∷ [])))))))
-    -- three keys, of which key 1 holds the number 7
-    ∷ (image_run (0x53 ∷ 0x4D ∷ 0x01 ∷ 0x04 ∷ 0x03 ∷ 0x00 ∷ 0x01 ∷ 0x00 ∷ 0x53 ∷ 0x56 ∷ 0x01 ∷ 0x00 ∷ 0x07 ∷ 0x00 ∷ 0x00 ∷ 0x00 ∷ 0x53 ∷ 0x45 ∷ [])
-    (whole 4 3 (entry 1 (0x07 ∷ 0x00 ∷ 0x00 ∷ 0x00 ∷ []) ∷ []))
-    -- and less its last byte
-    ∷ (image_run (0x53 ∷ 0x4D ∷ 0x01 ∷ 0x04 ∷ 0x03 ∷ 0x00 ∷ 0x01 ∷ 0x00 ∷ 0x53 ∷ 0x56 ∷ 0x01 ∷ 0x00 ∷ 0x07 ∷ 0x00 ∷ 0x00 ∷ 0x00 ∷ 0x53 ∷ [])
+    -- an image, and the same less its last byte
+    ∷ (image_run seven_image
+    (whole 4 3 seven)
+    ∷ (image_run (take 17 seven_image)
     (broken 16)
     ∷ [])))))))))
