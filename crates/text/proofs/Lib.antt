@@ -1,2 +1,2 @@
 pub mod Splits
-pub mod Numerals
+pub mod Scans

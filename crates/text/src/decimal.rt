@@ -2,8 +2,6 @@
 ghost use Rattle.std.specs.Prelude.{◌≡◌};
 ghost use Rattle.text.specs.Numbers.{number_of};
 
-use std::str;
-
 // The most digits that a number is written with.
 pub const MOST_DIGITS: usize = 10;
 
@@ -11,8 +9,13 @@ pub const MOST_DIGITS: usize = 10;
 pub fn number(line: &[u8]) -> Option<u32>
     ensures { result ≡ number_of line.now }
 {
-    if line.len() > MOST_DIGITS || !line.iter().all(|b| b.is_ascii_digit()) {
+    if line.is_empty() || line.len() > MOST_DIGITS {
         return None;
     }
-    str::from_utf8(line).ok()?.parse().ok()
+    // Ten digits have room in 64 bits. A parse by the library would read the bytes three times.
+    let mut value: u64 = 0;
+    for byte in line {
+        value = value * 10 + u64::from(char::from(*byte).to_digit(10)?);
+    }
+    u32::try_from(value).ok()
 }
