@@ -37,7 +37,11 @@ fn gather<A: ByteArray, B: Row<Item = u8>>(bytes: &mut B, at: usize) -> A
     let mut string = A::zeros();
     // Places, since a row has no iterator: the next place may lie anywhere below it.
     for i in 0..A::size() {
-        string.put(i, bytes.read(at + i).unwrap_or(0));
+        // Never refused, as the proof knows: with a value in the refusal's place each byte would be tested as it is read.
+        let Ok(byte) = bytes.read(at + i) else {
+            unreachable();
+        };
+        string.put(i, byte);
     }
     string
 }
