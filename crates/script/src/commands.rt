@@ -22,7 +22,8 @@ pub(crate) type Keys = MetaSlotMap<
     InlineRow<u32>,
 >;
 
-// Rows for a table of a script.
+// Rows for a table of a script. Inline, so that they are made where the table takes them, and not copied there.
+#[inline(always)]
 fn key_rows() -> Rows<InlineRow<u32>, InlineRow<FreeListEntry>, InlineRow<u32>, InlineRow<u32>>
     ensures index { length result.index.cells ≡ 64 }
     ensures links { length result.links.cells ≡ 64 }
