@@ -1,3 +1,4 @@
 pub mod Latest
 pub mod Rounds
 pub mod Answered
+pub mod Overflows

@@ -1,8 +1,8 @@
 -- Laws of the ring and of a queue's contents, over numbers and lists alone.
-use Rattle.std.proofs.Common.{◌≡◌, ℕ, zero, suc, ◌+◌, ◌-◌, ◌%◌, ◌<◌, ◌≤◌, List, [], ◌∷◌, ◌++◌, length, drop, set, Some, Option, sym, refl, ap, ◌∙◌, ⊎_elim, add-zero, mod-lt, mod-eq_of_lt, zero-add, arith}
+use Rattle.std.proofs.Common.{◌≡◌, ℕ, zero, suc, ◌+◌, ◌-◌, ◌%◌, ◌<◌, ◌≤◌, List, [], ◌∷◌, ◌++◌, length, drop, set, None, Some, Option, sym, refl, ap, ◌∙◌, ⊎_elim, add-zero, mod-lt, mod-eq_of_lt, zero-add, arith}
 use native.Mathlib.Nat.{mod-eq-sub-mod, mod-add-mod}
 use Rattle.std.proofs.iter.runs.Lists.{nth_drop, nth_left, nth_seam}
-use Rattle.std.proofs.lemmas.List.{length-drop, length-set, length_push}
+use Rattle.std.proofs.lemmas.List.{length-append, length-drop, length-set, length_push}
 use Rattle.std.proofs.lemmas.Bool.{cases_eq, cases_lt}
 use Rattle.std.specs.List.{slice_get, range_with_len, flat_map}
 use Rattle.std.specs.Option.{option_to_list}
@@ -42,6 +42,10 @@ nth_set_other (x ∷ xs) zero (suc k) v apart = refl
 nth_set_other (x ∷ xs) (suc i) zero v apart = refl
 nth_set_other (x ∷ xs) (suc i) (suc k) v apart = nth_set_other xs i k v (λ e. apart (ap suc e))
 
+length_option : {T : Type 0} (o : Option T) → length (option_to_list o) ≤ 1
+length_option None = omega arith
+length_option (Some x) = omega arith
+
 -- a list picked place by place, where each place has something
 module _ {T : Type 0} (f : ℕ → Option T) where
   abbrev picked : ℕ → ℕ → List T
@@ -49,6 +53,11 @@ module _ {T : Type 0} (f : ℕ → Option T) where
 
   pick_first : (a n : ℕ) (x : T) → f a ≡ Some x → picked a (suc n) ≡ x ∷ picked (a + 1) n
   pick_first a n x e = ap (λ o. option_to_list o ++ picked (a + 1) n) e
+
+  length_picked_most : (a n : ℕ) → length (picked a n) ≤ n
+  length_picked_most a zero = omega arith
+  length_picked_most a (suc n) =
+      omega (arith, length-append (option_to_list (f a)) (picked (a + 1) n), length_option (f a), length_picked_most (a + 1) n)
 
   pub length_picked : (a n : ℕ) → ((i : ℕ) → a ≤ i → i < a + n → (x : T) × (f i ≡ Some x)) → length (picked a n) ≡ n
   length_picked a zero h = refl
@@ -66,6 +75,10 @@ module _ {T : Type 0} (f : ℕ → Option T) where
       ap (λ xs. slice_get xs (suc k)) (pick_first a n it.0 it.1)
       ∙ nth_picked (a + 1) n k (λ i le l. h i (omega arith) (omega arith)) (omega arith)
       ∙ ap f (omega arith)
+
+-- a queue holds at most what its length says
+pub length_contents_most : {T : Type 0} (q : QueueState T) → length (contents q) ≤ q.len
+length_contents_most q = length_picked_most (λ i. slice_get q.cells (place_of q i)) 0 q.len
 
 module _ {T : Type 0} (q : QueueState T) (within : q.len ≤ q.capacity) (backed : Backed q) where
   held : (i : ℕ) → 0 ≤ i → i < 0 + q.len → (x : T) × (slice_get q.cells (place_of q i) ≡ Some x)

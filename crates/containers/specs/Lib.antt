@@ -1,3 +1,4 @@
 pub mod Bounded
 pub mod Queues
 pub mod Vectors
+pub mod Values

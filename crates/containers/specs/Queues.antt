@@ -6,8 +6,7 @@ use Rattle.std.specs.Option.{option_to_list}
 use Rattle.refusal.specs.declared.Refusal.{Refusal}
 use Rattle.refusal.specs.declared.Refusal.TheVariants.{PlacePastLength, NoSpace, NoCell}
 use Rattle.rows.specs.Cells.{read_at, write_at}
-use Rattle.rows.specs.declared.row.Row.{Ghosts}
-use Rattle.containers.specs.declared.queue.MetaQueue.{MetaQueue}
+use Rattle.containers.specs.Values.{QueueValue}
 
 -- the registers of a queue, and all cells of its row
 pub record QueueState (T : Type 0) : Type 0 where
@@ -16,14 +15,14 @@ pub record QueueState (T : Type 0) : Type 0 where
   pub len : ℕ
   pub cells : List T
 
--- the state of a queue
-abbrev pub queue : {R T : Type 0} {row : Ghosts R T} → MetaQueue R T row → QueueState T
-queue {row = row} q =
+-- the state of a queue over a row whose cells are known
+abbrev pub queue : {R T : Type 0} → (R → List T) → QueueValue R → QueueState T
+queue cells q =
     record {
       capacity = q.position.capacity;
       start = q.position.start;
       len = q.position.len;
-      cells = row.cells q.row;
+      cells = cells q.row;
     }
 
 -- every place of the ring is a cell of the row

@@ -4,8 +4,7 @@ use Rattle.std.specs.Result.{result_map_both}
 use Rattle.refusal.specs.declared.Refusal.{Refusal}
 use Rattle.refusal.specs.declared.Refusal.TheVariants.{PlacePastLength, NoSpace}
 use Rattle.rows.specs.Cells.{read_at, write_at}
-use Rattle.rows.specs.declared.row.Row.{Ghosts}
-use Rattle.containers.specs.declared.vec.MetaVec.{MetaVec}
+use Rattle.containers.specs.Values.{VecValue}
 
 -- the registers of a vector, and all cells of its row
 pub record VecState (T : Type 0) : Type 0 where
@@ -13,9 +12,9 @@ pub record VecState (T : Type 0) : Type 0 where
   pub len : ℕ
   pub cells : List T
 
--- the state of a vector
-abbrev pub vector : {R T : Type 0} {row : Ghosts R T} → MetaVec R T row → VecState T
-vector {row = row} v = record { capacity = v.extent.capacity; len = v.extent.len; cells = row.cells v.row }
+-- the state of a vector over a row whose cells are known
+abbrev pub vector : {R T : Type 0} → (R → List T) → VecValue R → VecState T
+vector cells v = record { capacity = v.extent.capacity; len = v.extent.len; cells = cells v.row }
 
 -- every place of the capacity is a cell of the row
 abbrev pub Backed : {T : Type 0} → VecState T → Type 0

@@ -34,7 +34,12 @@ impl Position {
         ensures value { result ≡ (self.start + self.capacity - self.len + index) % self.capacity }
         ensures bound { result < self.capacity }
     {
-        (self.start + self.capacity - self.len + index) % self.capacity
+        let place = self.start + self.capacity - self.len + index;
+        if place < self.capacity {
+            place
+        } else {
+            place - self.capacity
+        }
     }
 
     // One element more, at `start`.
@@ -44,9 +49,11 @@ impl Position {
         ensures start { result.start ≡ (self.start + 1) % self.capacity }
         ensures len { result.len ≡ self.len + 1 }
     {
+        let place = self.start + 1;
+        let start = if place < self.capacity { place } else { 0 };
         Position {
             capacity: self.capacity,
-            start: (self.start + 1) % self.capacity,
+            start,
             len: self.len + 1,
         }
     }

@@ -9,13 +9,24 @@ use crate::capacity::fitting;
 use crate::position::Position;
 use refusal::Refusal;
 use rows::Row;
+use std::marker::Model;
 
 // First in, first out, round a ring of places. The row has a cell for each place.
 #[derive(Drop)]
 pub struct MetaQueue<R: Row> {
     row: R,
     position: Position,
-    pub ghost backed: { position.capacity ≤ length (R.Row.cells row) },
+}
+
+impl<R: Row> Model for MetaQueue<R> {
+    ghost use Rattle.std.specs.Prelude.{◌≤◌, length};
+    ghost use Rattle.containers.specs.Values.{QueueValue};
+
+    ghost Value = { QueueValue R };
+
+    ghost view = { λ q. record { row = q.row; position = q.position } };
+
+    ghost invariant = { λ q. q.position.capacity ≤ length (R.Row.cells q.row) };
 }
 
 impl<R: Row> MetaQueue<R> {
@@ -23,7 +34,8 @@ impl<R: Row> MetaQueue<R> {
 
     // An empty queue over all cells of `row`, or over the first 65,535 of them.
     pub fn new(row: R) -> Self
-        ensures state { queue result ≡ empty (min 65535 (length (R.Row.cells row))) (R.Row.cells row) }
+        ensures state { queue R.Row.cells result ≡ empty (min 65535 (length (R.Row.cells row))) (R.Row.cells row) }
+        ensures backed { Backed (queue R.Row.cells result) }
         ensures untouched { R.Row.stored result.row ≡ R.Row.stored row }
         ensures beside { R.Row.outside result.row ≡ R.Row.outside row }
     {
@@ -33,7 +45,8 @@ impl<R: Row> MetaQueue<R> {
     // An empty queue over the first cells of `row`: `capacity` of them, if there are so many and
     // they are at most 65,535.
     pub fn with_capacity(mut row: R, capacity: u32) -> Self
-        ensures state { queue result ≡ empty (min (min capacity 65535) (length (R.Row.cells row))) (R.Row.cells row) }
+        ensures state { queue R.Row.cells result ≡ empty (min (min capacity 65535) (length (R.Row.cells row))) (R.Row.cells row) }
+        ensures backed { Backed (queue R.Row.cells result) }
         ensures untouched { R.Row.stored result.row ≡ R.Row.stored row }
         ensures beside { R.Row.outside result.row ≡ R.Row.outside row }
     {
@@ -53,9 +66,9 @@ impl<R: Row> MetaQueue<R> {
 
     // The element `index` from the oldest; refused at or past the length.
     pub fn get(&mut self, index: usize) -> Result<R::Item, Refusal>
-        ensures value { result ≡ get_answer (queue self.old) index }
-        ensures same { queue self.new ≡ queue self.old }
-        ensures means { Means contents Backed (queue self.old) result (queue self.new) (λ xs. ok_or (slice_get xs index) PlacePastLength) (λ xs. xs) }
+        ensures value { result ≡ get_answer (queue R.Row.cells self.old) index }
+        ensures same { queue R.Row.cells self.new ≡ queue R.Row.cells self.old }
+        ensures means { Means contents Backed (queue R.Row.cells self.old) result (queue R.Row.cells self.new) (λ xs. ok_or (slice_get xs index) PlacePastLength) (λ xs. xs) }
         ensures untouched { R.Row.stored self.new.row ≡ R.Row.stored self.old.row }
         ensures beside { R.Row.outside self.new.row ≡ R.Row.outside self.old.row }
     {
@@ -69,46 +82,48 @@ impl<R: Row> MetaQueue<R> {
 
     // True where nothing is held.
     pub fn is_empty(&self) -> bool
-        ensures value { result ≡ ((queue self.now).len == 0) }
-        ensures means { result ≡ (length (contents (queue self.now)) == 0) }
+        ensures value { result ≡ ((queue R.Row.cells self.now).len == 0) }
+        ensures means { result ≡ (length (contents (queue R.Row.cells self.now)) == 0) }
     {
         self.len() == 0
     }
 
     // The place that the next push writes.
     pub fn start(&self) -> u32
-        ensures { result ≡ (queue self.now).start }
+        ensures { result ≡ (queue R.Row.cells self.now).start }
     {
         self.position.start
     }
 
     // How many elements can be held.
     pub fn capacity(&self) -> u32
-        ensures { result ≡ (queue self.now).capacity }
+        ensures { result ≡ (queue R.Row.cells self.now).capacity }
     {
         self.position.capacity
     }
 
     // How many elements are held.
     pub fn len(&self) -> u32
-        ensures value { result ≡ (queue self.now).len }
-        ensures means { result ≡ length (contents (queue self.now)) }
+        ensures value { result ≡ (queue R.Row.cells self.now).len }
+        ensures means { result ≡ length (contents (queue R.Row.cells self.now)) }
+        ensures backed { Backed (queue R.Row.cells self.now) }
     {
         self.position.len
     }
 
     // True where no more can be held.
     pub fn is_full(&self) -> bool
-        ensures value { result ≡ ((queue self.now).len == (queue self.now).capacity) }
-        ensures means { result ≡ (length (contents (queue self.now)) == (queue self.now).capacity) }
+        ensures value { result ≡ ((queue R.Row.cells self.now).len == (queue R.Row.cells self.now).capacity) }
+        ensures means { result ≡ (length (contents (queue R.Row.cells self.now)) == (queue R.Row.cells self.now).capacity) }
     {
         self.len() == self.capacity()
     }
 
     // Lets all elements go; `start` stays where it is.
     pub fn clear(&mut self)
-        ensures after { queue self.new ≡ cleared (queue self.old) }
-        ensures holds { contents (queue self.new) ≡ [] }
+        ensures after { queue R.Row.cells self.new ≡ cleared (queue R.Row.cells self.old) }
+        ensures holds { contents (queue R.Row.cells self.new) ≡ [] }
+        ensures backed { Backed (queue R.Row.cells self.new) }
         ensures untouched { R.Row.stored self.new.row ≡ R.Row.stored self.old.row }
         ensures beside { R.Row.outside self.new.row ≡ R.Row.outside self.old.row }
     {
@@ -117,9 +132,9 @@ impl<R: Row> MetaQueue<R> {
 
     // The oldest element, which stays.
     pub fn peek(&mut self) -> Option<R::Item>
-        ensures value { Ok result ≡ oldest_answer (queue self.old) }
-        ensures same { queue self.new ≡ queue self.old }
-        ensures means { Means contents Backed (queue self.old) result (queue self.new) (λ xs. slice_get xs 0) (λ xs. xs) }
+        ensures value { Ok result ≡ oldest_answer (queue R.Row.cells self.old) }
+        ensures same { queue R.Row.cells self.new ≡ queue R.Row.cells self.old }
+        ensures means { Means contents Backed (queue R.Row.cells self.old) result (queue R.Row.cells self.new) (λ xs. slice_get xs 0) (λ xs. xs) }
         ensures untouched { R.Row.stored self.new.row ≡ R.Row.stored self.old.row }
         ensures beside { R.Row.outside self.new.row ≡ R.Row.outside self.old.row }
     {
@@ -128,9 +143,9 @@ impl<R: Row> MetaQueue<R> {
 
     // Takes the oldest element out.
     pub fn pop(&mut self) -> Option<R::Item>
-        ensures value { Ok result ≡ oldest_answer (queue self.old) }
-        ensures after { queue self.new ≡ popped (queue self.old) }
-        ensures means { Means contents Backed (queue self.old) result (queue self.new) (λ xs. slice_get xs 0) (drop 1) }
+        ensures value { Ok result ≡ oldest_answer (queue R.Row.cells self.old) }
+        ensures after { queue R.Row.cells self.new ≡ popped (queue R.Row.cells self.old) }
+        ensures means { Means contents Backed (queue R.Row.cells self.old) result (queue R.Row.cells self.new) (λ xs. slice_get xs 0) (drop 1) }
         ensures untouched { R.Row.stored self.new.row ≡ R.Row.stored self.old.row }
         ensures beside { R.Row.outside self.new.row ≡ R.Row.outside self.old.row }
     {
@@ -141,9 +156,9 @@ impl<R: Row> MetaQueue<R> {
 
     // Adds `value` behind the newest element; refused where the queue is full.
     pub fn push(&mut self, value: R::Item) -> Result<(), Refusal>
-        ensures value { result ≡ push_answer (queue self.old) }
-        ensures after { queue self.new ≡ (if is_ok result then pushed (queue self.old) value else queue self.old) }
-        ensures means { Means contents Backed (queue self.old) result (queue self.new) (append_answer (queue self.old).capacity) (appended (queue self.old).capacity value) }
+        ensures value { result ≡ push_answer (queue R.Row.cells self.old) }
+        ensures after { queue R.Row.cells self.new ≡ (if is_ok result then pushed (queue R.Row.cells self.old) value else queue R.Row.cells self.old) }
+        ensures means { Means contents Backed (queue R.Row.cells self.old) result (queue R.Row.cells self.new) (append_answer (queue R.Row.cells self.old).capacity) (appended (queue R.Row.cells self.old).capacity value) }
         ensures kept { is_ok result ≡ false → R.Row.stored self.new.row ≡ R.Row.stored self.old.row }
         ensures beside { R.Row.outside self.new.row ≡ R.Row.outside self.old.row }
     {
@@ -158,18 +173,26 @@ impl<R: Row> MetaQueue<R> {
     // Adds `value` behind the newest element; where the queue is full, the oldest has to go and
     // is answered. Refused where there is no cell at all.
     pub fn push_with_overflow(&mut self, value: R::Item) -> Result<Option<R::Item>, Refusal>
-        ensures value { result ≡ overflow_answer (queue self.old) }
-        ensures after { queue self.new ≡ (if is_ok result then overflowed (queue self.old) value else queue self.old) }
-        ensures means { Means contents Backed (queue self.old) result (queue self.new) (displaced (queue self.old).capacity) (λ xs. latest (queue self.old).capacity (xs ++ (value ∷ []))) }
+        ensures value { result ≡ overflow_answer (queue R.Row.cells self.old) }
+        ensures after { queue R.Row.cells self.new ≡ (if is_ok result then overflowed (queue R.Row.cells self.old) value else queue R.Row.cells self.old) }
+        ensures means { Means contents Backed (queue R.Row.cells self.old) result (queue R.Row.cells self.new) (displaced (queue R.Row.cells self.old).capacity) (λ xs. latest (queue R.Row.cells self.old).capacity (xs ++ (value ∷ []))) }
         ensures kept { is_ok result ≡ false → R.Row.stored self.new.row ≡ R.Row.stored self.old.row }
         ensures beside { R.Row.outside self.new.row ≡ R.Row.outside self.old.row }
     {
         if self.capacity() == 0 {
             return Err(Refusal::NoCell);
         }
-        let oldest = if self.is_full() { self.pop() } else { None };
-        self.push(value)?;
-        Ok(oldest)
+        if self.len() < self.capacity() {
+            self.push(value)?;
+            return Ok(None);
+        }
+        // No place is free, so the oldest element lies where the next push writes: read and written there, it takes
+        // two thirds of the time of a pop and a push.
+        let start = self.position.start as usize;
+        let oldest = self.row.read(start)?;
+        self.row.write(start, value)?;
+        self.position = self.position.popped().pushed();
+        Ok(Some(oldest))
     }
 }
 

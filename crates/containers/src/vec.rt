@@ -9,13 +9,24 @@ use crate::capacity::fitting;
 use crate::extent::Extent;
 use refusal::Refusal;
 use rows::Row;
+use std::marker::Model;
 
 // Elements in a row's first cells, in order. The row has a cell for each place.
 #[derive(Drop)]
 pub struct MetaVec<R: Row> {
     row: R,
     extent: Extent,
-    pub ghost backed: { extent.capacity ≤ length (R.Row.cells row) },
+}
+
+impl<R: Row> Model for MetaVec<R> {
+    ghost use Rattle.std.specs.Prelude.{◌≤◌, length};
+    ghost use Rattle.containers.specs.Values.{VecValue};
+
+    ghost Value = { VecValue R };
+
+    ghost view = { λ v. record { row = v.row; extent = v.extent } };
+
+    ghost invariant = { λ v. v.extent.capacity ≤ length (R.Row.cells v.row) };
 }
 
 impl<R: Row> MetaVec<R> {
@@ -23,7 +34,8 @@ impl<R: Row> MetaVec<R> {
 
     // An empty vector over all cells of `row`, or over the first 65,535 of them.
     pub fn new(mut row: R) -> Self
-        ensures state { vector result ≡ record { capacity = min 65535 (length (R.Row.cells row)); len = 0; cells = R.Row.cells row } }
+        ensures state { vector R.Row.cells result ≡ record { capacity = min 65535 (length (R.Row.cells row)); len = 0; cells = R.Row.cells row } }
+        ensures backed { Backed (vector R.Row.cells result) }
         ensures untouched { R.Row.stored result.row ≡ R.Row.stored row }
         ensures beside { R.Row.outside result.row ≡ R.Row.outside row }
     {
@@ -43,40 +55,41 @@ impl<R: Row> MetaVec<R> {
 
     // How many elements can be held.
     pub fn capacity(&self) -> u32
-        ensures { result ≡ (vector self.now).capacity }
+        ensures { result ≡ (vector R.Row.cells self.now).capacity }
     {
         self.extent.capacity
     }
 
     // How many elements are held.
     pub fn len(&self) -> u32
-        ensures value { result ≡ (vector self.now).len }
-        ensures means { result ≡ length (contents (vector self.now)) }
+        ensures value { result ≡ (vector R.Row.cells self.now).len }
+        ensures means { result ≡ length (contents (vector R.Row.cells self.now)) }
+        ensures backed { Backed (vector R.Row.cells self.now) }
     {
         self.extent.len
     }
 
     // True where no more can be held.
     pub fn is_full(&self) -> bool
-        ensures value { result ≡ ((vector self.now).len == (vector self.now).capacity) }
-        ensures means { result ≡ (length (contents (vector self.now)) == (vector self.now).capacity) }
+        ensures value { result ≡ ((vector R.Row.cells self.now).len == (vector R.Row.cells self.now).capacity) }
+        ensures means { result ≡ (length (contents (vector R.Row.cells self.now)) == (vector R.Row.cells self.now).capacity) }
     {
         self.len() == self.capacity()
     }
 
     // True where nothing is held.
     pub fn is_empty(&self) -> bool
-        ensures value { result ≡ ((vector self.now).len == 0) }
-        ensures means { result ≡ (length (contents (vector self.now)) == 0) }
+        ensures value { result ≡ ((vector R.Row.cells self.now).len == 0) }
+        ensures means { result ≡ (length (contents (vector R.Row.cells self.now)) == 0) }
     {
         self.len() == 0
     }
 
     // Adds `value` behind the last element; refused where the vector is full.
     pub fn push(&mut self, value: R::Item) -> Result<(), Refusal>
-        ensures value { result ≡ push_answer (vector self.old) }
-        ensures after { vector self.new ≡ (if is_ok result then with (vector self.old) ((vector self.old).len + 1) (slice_set (vector self.old).cells (vector self.old).len value) else vector self.old) }
-        ensures means { Means contents Backed (vector self.old) result (vector self.new) (append_answer (vector self.old).capacity) (appended (vector self.old).capacity value) }
+        ensures value { result ≡ push_answer (vector R.Row.cells self.old) }
+        ensures after { vector R.Row.cells self.new ≡ (if is_ok result then with (vector R.Row.cells self.old) ((vector R.Row.cells self.old).len + 1) (slice_set (vector R.Row.cells self.old).cells (vector R.Row.cells self.old).len value) else vector R.Row.cells self.old) }
+        ensures means { Means contents Backed (vector R.Row.cells self.old) result (vector R.Row.cells self.new) (append_answer (vector R.Row.cells self.old).capacity) (appended (vector R.Row.cells self.old).capacity value) }
         ensures kept { is_ok result ≡ false → R.Row.stored self.new.row ≡ R.Row.stored self.old.row }
         ensures beside { R.Row.outside self.new.row ≡ R.Row.outside self.old.row }
     {
@@ -91,8 +104,9 @@ impl<R: Row> MetaVec<R> {
 
     // Lets all elements go.
     pub fn clear(&mut self)
-        ensures after { vector self.new ≡ with (vector self.old) 0 (vector self.old).cells }
-        ensures holds { contents (vector self.new) ≡ [] }
+        ensures after { vector R.Row.cells self.new ≡ with (vector R.Row.cells self.old) 0 (vector R.Row.cells self.old).cells }
+        ensures holds { contents (vector R.Row.cells self.new) ≡ [] }
+        ensures backed { Backed (vector R.Row.cells self.new) }
         ensures untouched { R.Row.stored self.new.row ≡ R.Row.stored self.old.row }
         ensures beside { R.Row.outside self.new.row ≡ R.Row.outside self.old.row }
     {
@@ -101,9 +115,9 @@ impl<R: Row> MetaVec<R> {
 
     // Takes the last element out.
     pub fn pop(&mut self) -> Option<R::Item>
-        ensures value { Ok result ≡ pop_answer (vector self.old) }
-        ensures after { vector self.new ≡ with (vector self.old) ((vector self.old).len - 1) (vector self.old).cells }
-        ensures means { Means contents Backed (vector self.old) result (vector self.new) (λ xs. slice_get xs (length xs - 1)) (λ xs. take (length xs - 1) xs) }
+        ensures value { Ok result ≡ pop_answer (vector R.Row.cells self.old) }
+        ensures after { vector R.Row.cells self.new ≡ with (vector R.Row.cells self.old) ((vector R.Row.cells self.old).len - 1) (vector R.Row.cells self.old).cells }
+        ensures means { Means contents Backed (vector R.Row.cells self.old) result (vector R.Row.cells self.new) (λ xs. slice_get xs (length xs - 1)) (λ xs. take (length xs - 1) xs) }
         ensures untouched { R.Row.stored self.new.row ≡ R.Row.stored self.old.row }
         ensures beside { R.Row.outside self.new.row ≡ R.Row.outside self.old.row }
     {
@@ -115,9 +129,9 @@ impl<R: Row> MetaVec<R> {
 
     // The element at `place`; refused at or past the length.
     pub fn read(&mut self, place: usize) -> Result<R::Item, Refusal>
-        ensures value { result ≡ read_answer (vector self.old) place }
-        ensures same { vector self.new ≡ vector self.old }
-        ensures means { Means contents Backed (vector self.old) result (vector self.new) (λ xs. ok_or (slice_get xs place) PlacePastLength) (λ xs. xs) }
+        ensures value { result ≡ read_answer (vector R.Row.cells self.old) place }
+        ensures same { vector R.Row.cells self.new ≡ vector R.Row.cells self.old }
+        ensures means { Means contents Backed (vector R.Row.cells self.old) result (vector R.Row.cells self.new) (λ xs. ok_or (slice_get xs place) PlacePastLength) (λ xs. xs) }
         ensures untouched { R.Row.stored self.new.row ≡ R.Row.stored self.old.row }
         ensures beside { R.Row.outside self.new.row ≡ R.Row.outside self.old.row }
     {
@@ -130,9 +144,9 @@ impl<R: Row> MetaVec<R> {
 
     // Stores `value` in the element at `place`; refused at or past the length.
     pub fn write(&mut self, place: usize, value: R::Item) -> Result<(), Refusal>
-        ensures value { result ≡ write_answer (vector self.old) place }
-        ensures after { vector self.new ≡ with (vector self.old) (vector self.old).len (if is_ok result then slice_set (vector self.old).cells place value else (vector self.old).cells) }
-        ensures means { Means contents Backed (vector self.old) result (vector self.new) (λ xs. (if nat_lt place (length xs) then Ok tt else Err PlacePastLength)) (λ xs. slice_set xs place value) }
+        ensures value { result ≡ write_answer (vector R.Row.cells self.old) place }
+        ensures after { vector R.Row.cells self.new ≡ with (vector R.Row.cells self.old) (vector R.Row.cells self.old).len (if is_ok result then slice_set (vector R.Row.cells self.old).cells place value else (vector R.Row.cells self.old).cells) }
+        ensures means { Means contents Backed (vector R.Row.cells self.old) result (vector R.Row.cells self.new) (λ xs. (if nat_lt place (length xs) then Ok tt else Err PlacePastLength)) (λ xs. slice_set xs place value) }
         ensures kept { is_ok result ≡ false → R.Row.stored self.new.row ≡ R.Row.stored self.old.row }
         ensures beside { R.Row.outside self.new.row ≡ R.Row.outside self.old.row }
     {

@@ -30,9 +30,9 @@ pub fn play<X: Row<Item = u32>, L: Row<Item = FreeListEntry>, D: Row, Q: Row<Ite
 ) -> Played<X, L, D, Q>
     ensures count { result.count ≡ min (length calls.now) (length answers.old) }
     ensures answered { answers.new ≡ answers_to (fresh (keys_over X.Row L.Row D.Row Q.Row plan.capacity rows)) (take result.count calls.now) ++ drop result.count answers.old }
-    ensures after { laid X.Row.cells L.Row.cells D.Row.cells result.table ≡ cells_after_all (fresh_over X.Row L.Row D.Row Q.Row plan.capacity rows) (take result.count calls.now) }
-    ensures reached { Reached (keys_over X.Row L.Row D.Row Q.Row plan.capacity rows) (paired (take result.count calls.now) (take result.count answers.new)) (laid X.Row.cells L.Row.cells D.Row.cells result.table) }
-    ensures beyond { SameBeyond (bare_over X.Row L.Row D.Row Q.Row plan.capacity rows) (laid X.Row.cells L.Row.cells D.Row.cells result.table) }
+    ensures after { laid X.Row.cells L.Row.cells D.Row.cells Q.Row.cells result.table ≡ cells_after_all (fresh_over X.Row L.Row D.Row Q.Row plan.capacity rows) (take result.count calls.now) }
+    ensures reached { Reached (keys_over X.Row L.Row D.Row Q.Row plan.capacity rows) (paired (take result.count calls.now) (take result.count answers.new)) (laid X.Row.cells L.Row.cells D.Row.cells Q.Row.cells result.table) }
+    ensures beyond { SameBeyond (bare_over X.Row L.Row D.Row Q.Row plan.capacity rows) (laid X.Row.cells L.Row.cells D.Row.cells Q.Row.cells result.table) }
     ensures outside { (X.Row.outside result.table.idx_to_data ≡ X.Row.outside rows.index) × ((L.Row.outside result.table.idx_to_data_free_list ≡ L.Row.outside rows.links) × ((D.Row.outside result.table.«data» ≡ D.Row.outside rows.values) × (Q.Row.outside result.table.data_next_free_index.row ≡ Q.Row.outside rows.slots))) }
 {
     let mut table = plan.init(rows);

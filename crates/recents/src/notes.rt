@@ -35,8 +35,8 @@ fn note<R: Row<Item = u32>>(
     line: &[u8],
     place: usize,
 ) -> Result<(), AllocError>
-    ensures capacity { (state queue.new).capacity ≡ (state queue.old).capacity }
-    ensures held { OnOk result (contents (state queue.new) ≡ latest (state queue.old).capacity (contents (state queue.old) ++ option_to_list (number_of line.now))) }
+    ensures capacity { (state R.Row.cells queue.new).capacity ≡ (state R.Row.cells queue.old).capacity }
+    ensures held { OnOk result (contents (state R.Row.cells queue.new) ≡ latest (state R.Row.cells queue.old).capacity (contents (state R.Row.cells queue.old) ++ option_to_list (number_of line.now))) }
     ensures err { OnOk result (string_bytes err.new ≡ string_bytes err.old ++ complained place line.now) }
 {
     let Some(n) = number(line) else {
@@ -52,7 +52,7 @@ pub(crate) fn note_lines<R: Row<Item = u32>>(
     err: &mut String,
     text: &[u8],
 ) -> Result<(), AllocError>
-    ensures held { OnOk result (contents (state queue.new) ≡ latest (state queue.old).capacity (contents (state queue.old) ++ numbers (lines text.now))) }
+    ensures held { OnOk result (contents (state R.Row.cells queue.new) ≡ latest (state R.Row.cells queue.old).capacity (contents (state R.Row.cells queue.old) ++ numbers (lines text.now))) }
     ensures err { OnOk result (string_bytes err.new ≡ string_bytes err.old ++ complaints 1 (lines text.now)) }
 {
     for (i, line) in LineReader::new(text).enumerate() {
@@ -66,7 +66,7 @@ pub(crate) fn print_numbers<R: Row<Item = u32>>(
     queue: &mut MetaQueue<R>,
     out: &mut String,
 ) -> Result<(), AllocError>
-    ensures { OnOk result (string_bytes out.new ≡ string_bytes out.old ++ flat_map number_line (contents (state queue.old))) }
+    ensures { OnOk result (string_bytes out.new ≡ string_bytes out.old ++ flat_map number_line (contents (state R.Row.cells queue.old))) }
 {
     while let Some(n) = queue.pop() {
         print_number(out, n)?;

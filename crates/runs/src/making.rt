@@ -16,9 +16,9 @@ pub fn perform<R: Row<Item = u32>>(
     queue: &mut MetaQueue<R>,
     call: QueueCall,
 ) -> Result<Answer<u32>, Refusal>
-    ensures value { result ≡ cells_answer (state queue.old) call }
-    ensures after { state queue.new ≡ cells_after (state queue.old) call }
-    ensures means { Means contents Backed (state queue.old) result (state queue.new) (λ xs. answer_to (state queue.old).capacity xs call) (λ xs. held_after (state queue.old).capacity xs call) }
+    ensures value { result ≡ cells_answer (state R.Row.cells queue.old) call }
+    ensures after { state R.Row.cells queue.new ≡ cells_after (state R.Row.cells queue.old) call }
+    ensures means { Means contents Backed (state R.Row.cells queue.old) result (state R.Row.cells queue.new) (λ xs. answer_to (state R.Row.cells queue.old).capacity xs call) (λ xs. held_after (state R.Row.cells queue.old).capacity xs call) }
     ensures untouched { only_reads call ≡ true → R.Row.stored queue.new.row ≡ R.Row.stored queue.old.row }
     ensures kept { is_ok result ≡ false → R.Row.stored queue.new.row ≡ R.Row.stored queue.old.row }
     ensures beside { R.Row.outside queue.new.row ≡ R.Row.outside queue.old.row }

@@ -22,5 +22,5 @@ Does layout old r new text next =
     (s : Session) → Promised s (layout old.table) → OnOk r ((string_bytes new.out ≡ string_bytes old.out ++ text (table_of s)) × Promised (next s) (layout new.table))
 
 -- the cells and registers of a script's table
-abbrev pub keys_layout : {row : _} → MetaSlotMap (InlineRow ℕ) (InlineRow FreeListEntry) (InlineRow ℕ) (InlineRow ℕ) ℕ row → Layout ℕ
-keys_layout t = laid (λ r. r.cells) (λ r. r.cells) (λ r. r.cells) t
+abbrev pub keys_layout : MetaSlotMap (InlineRow ℕ) (InlineRow FreeListEntry) (InlineRow ℕ) (InlineRow ℕ) ℕ → Layout ℕ
+keys_layout t = laid (λ r. r.cells) (λ r. r.cells) (λ r. r.cells) (λ r. r.cells) t

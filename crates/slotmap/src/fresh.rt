@@ -19,8 +19,8 @@ pub(crate) fn write_all<R: Row, F: Fn(u32) -> R::Item>(row: &mut R, capacity: u3
 
 // A queue of at most `capacity` places, one for each cell, in which all slots wait, in order.
 pub(crate) fn queue_all<Q: Row<Item = u32>>(slots: Q, capacity: u32) -> MetaQueue<Q>
-    ensures capacity { (state result).capacity ≡ min (min capacity 65535) (length (Q.Row.cells slots)) }
-    ensures after { state result ≡ slots_to (state result).capacity (state result).capacity (Q.Row.cells slots) }
+    ensures capacity { (state Q.Row.cells result).capacity ≡ min (min capacity 65535) (length (Q.Row.cells slots)) }
+    ensures after { state Q.Row.cells result ≡ slots_to (state Q.Row.cells result).capacity (state Q.Row.cells result).capacity (Q.Row.cells slots) }
     ensures beside { Q.Row.outside result.row ≡ Q.Row.outside slots }
 {
     let mut queue = MetaQueue::with_capacity(slots, capacity);

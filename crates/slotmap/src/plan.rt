@@ -81,10 +81,10 @@ impl Plan {
         self,
         mut rows: Rows<X, L, D, Q>,
     ) -> MetaSlotMap<X, L, D, Q>
-        ensures cells { laid X.Row.cells L.Row.cells D.Row.cells result ≡ fresh_over X.Row L.Row D.Row Q.Row self.capacity rows }
-        ensures means { Means (laid X.Row.cells L.Row.cells D.Row.cells result) (fresh (keys_over X.Row L.Row D.Row Q.Row self.capacity rows)) }
-        ensures reached { Reached (keys_over X.Row L.Row D.Row Q.Row self.capacity rows) [] (laid X.Row.cells L.Row.cells D.Row.cells result) }
-        ensures beyond { SameBeyond (bare_over X.Row L.Row D.Row Q.Row self.capacity rows) (laid X.Row.cells L.Row.cells D.Row.cells result) }
+        ensures cells { laid X.Row.cells L.Row.cells D.Row.cells Q.Row.cells result ≡ fresh_over X.Row L.Row D.Row Q.Row self.capacity rows }
+        ensures means { Means (laid X.Row.cells L.Row.cells D.Row.cells Q.Row.cells result) (fresh (keys_over X.Row L.Row D.Row Q.Row self.capacity rows)) }
+        ensures reached { Reached (keys_over X.Row L.Row D.Row Q.Row self.capacity rows) [] (laid X.Row.cells L.Row.cells D.Row.cells Q.Row.cells result) }
+        ensures beyond { SameBeyond (bare_over X.Row L.Row D.Row Q.Row self.capacity rows) (laid X.Row.cells L.Row.cells D.Row.cells Q.Row.cells result) }
         ensures unwritten { D.Row.stored result.«data» ≡ D.Row.stored rows.values }
         ensures outside { (X.Row.outside result.idx_to_data ≡ X.Row.outside rows.index) × ((L.Row.outside result.idx_to_data_free_list ≡ L.Row.outside rows.links) × ((D.Row.outside result.«data» ≡ D.Row.outside rows.values) × (Q.Row.outside result.data_next_free_index.row ≡ Q.Row.outside rows.slots))) }
     {

@@ -127,7 +127,7 @@ impl<X: Row<Item = u32>, L: Row<Item = FreeListEntry>, D: Row, Q: Row<Item = u32
     for MetaSlotMap<X, L, D, Q> {
     type Value = D::Item;
 
-    ghost layout = { laid X.Row.cells L.Row.cells D.Row.cells };
+    ghost layout = { laid X.Row.cells L.Row.cells D.Row.cells Q.Row.cells };
 
     ghost Outside = { X.Row.Outside × L.Row.Outside × D.Row.Outside × Q.Row.Outside };
 

@@ -6,6 +6,8 @@ mod alike;
 #[cfg(test)]
 mod audits;
 #[cfg(test)]
+mod holders;
+#[cfg(test)]
 mod plans;
 mod texture;
 #[cfg(test)]

@@ -4,6 +4,8 @@
 mod colour;
 mod flag;
 #[cfg(test)]
+mod holders;
+#[cfg(test)]
 mod packed_rows;
 #[cfg(test)]
 mod plain_rows;

@@ -17,13 +17,13 @@ returns-clause-answered g c =
     let vs = g.D.Row.cells c.args.rows.values in
     let qs = g.Q.Row.cells c.args.rows.slots in
     let C = least c.args.plan.capacity (length xs) (length ls) (length vs) (length qs) in
-    let o = laid g.X.Row.cells g.L.Row.cells g.D.Row.cells c.init-table.result in
+    let o = laid g.X.Row.cells g.L.Row.cells g.D.Row.cells g.Q.Row.cells c.init-table.result in
     c.run-count.ensures.value
     ∙ ap (λ as'. as' ++ drop c.run-count.result c.args.answers.now) (all_answer o (fresh C) (take c.run-count.result c.args.calls.now) c.init-table.ensures.means)
 
 pub returns-clause-reached : goal.returns-clause-reached
 returns-clause-reached g c =
-    c.run-count.ensures.reached _ [] (reached_fresh _ (laid g.X.Row.cells g.L.Row.cells g.D.Row.cells c.init-table.result) c.init-table.ensures.means)
+    c.run-count.ensures.reached _ [] (reached_fresh _ (laid g.X.Row.cells g.L.Row.cells g.D.Row.cells g.Q.Row.cells c.init-table.result) c.init-table.ensures.means)
 
 pub returns-clause-beyond : goal.returns-clause-beyond
 returns-clause-beyond g c =
@@ -33,5 +33,5 @@ returns-clause-beyond g c =
     let qs = g.Q.Row.cells c.args.rows.slots in
     let made = c.init-table.ensures in
     let C = least c.args.plan.capacity (length xs) (length ls) (length vs) (length qs) in
-    beyond_more (bare C xs ls vs qs) (laid g.X.Row.cells g.L.Row.cells g.D.Row.cells c.init-table.result) (laid g.X.Row.cells g.L.Row.cells g.D.Row.cells c.run-count.new.table)
+    beyond_more (bare C xs ls vs qs) (laid g.X.Row.cells g.L.Row.cells g.D.Row.cells g.Q.Row.cells c.init-table.result) (laid g.X.Row.cells g.L.Row.cells g.D.Row.cells g.Q.Row.cells c.run-count.new.table)
     (ap capacity made.cells) made.beyond c.run-count.ensures.beyond

@@ -10,8 +10,8 @@ use Rattle.recents.proofs.notes.note_lines.Given as goal
 -- what is left of the text leads to what the whole text leads to
 abbrev pub invariant-loop-i : goal.invariant-loop-i
 invariant-loop-i g l =
-    let q = queue l.queue in
-    let q₀ = queue l.initial.queue in
+    let q = queue g.R.Row.cells l.queue in
+    let q₀ = queue g.R.Row.cells l.initial.queue in
     let left = lines_left (enumerate_source l.i-iterator) in
     record {
       capacity : q.capacity ≡ q₀.capacity;

@@ -6,5 +6,5 @@ use Rattle.containers.proofs.vec.MetaVec.write.Goals as goal
 pub returns-then-place-len-clause-means : goal.returns-then-place-len-clause-means
 returns-then-place-len-clause-means g c =
     let s = c.args.self.now in
-    let long : s.extent.len ≤ length (g.R.Row.cells s.row) = omega arith in
+    let long : s.extent.len ≤ length (g.R.Row.cells s.row) = omega (arith, c.len.ensures.backed) in
     search (rules, take-set-lt)
