@@ -23,11 +23,11 @@ pub some_read : {T : Type 0} (o : Option T) (x : T) → o ≡ Some x → result_
 some_read o x h = ap (λ p. result_map_both Some (λ (e : Refusal). e) (ok_or p NoPlace)) h ∙ ap Ok (sym h)
 
 module _ {T : Type 0} (q : queues.QueueState T) (begins : q.start ≤ q.capacity - 1) (within : q.len ≤ q.capacity) (backed : queues.Backed q) where
-  sized : length (queues.contents q) ≡ q.len
+  pub sized : length (queues.contents q) ≡ q.len
   sized = length_contents q within backed
 
   -- an element below the length is found
-  found : (i : ℕ) → i < q.len → (x : T) × (slice_get (queues.contents q) i ≡ Some x)
+  pub found : (i : ℕ) → i < q.len → (x : T) × (slice_get (queues.contents q) i ≡ Some x)
   found i h = nth_some (queues.contents q) i (omega (arith, sized))
 
   pub get_answer_holds : (i : ℕ) → queues.get_answer q i ≡ ok_or (slice_get (queues.contents q) i) PlacePastLength

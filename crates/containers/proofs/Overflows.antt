@@ -10,19 +10,12 @@ use Rattle.refusal.specs.declared.Refusal.TheVariants.{NoCell, NoPlace}
 use Rattle.rows.proofs.Cells.{write_within}
 use Rattle.containers.specs.Bounded.{Means, latest, displaced}
 use Rattle.containers.specs.Queues.{QueueState, Backed, contents, pushed, popped, overflowed, overflow_answer}
-use Rattle.containers.proofs.Rounds.{length_contents, nth_contents, nth_some, contents_pushed, contents_popped, pushed_backed, wrap_below}
-
--- and then a read gives it
-pub some_read : {T : Type 0} (o : Option T) (x : T) → o ≡ Some x → result_map_both Some (λ (e : Refusal). e) (ok_or o NoPlace) ≡ Ok o
-some_read o x h = ap (λ p. result_map_both Some (λ (e : Refusal). e) (ok_or p NoPlace)) h ∙ ap Ok (sym h)
+use Rattle.containers.proofs.Answered.{some_read, sized, found}
+use Rattle.containers.proofs.Rounds.{nth_contents, contents_pushed, contents_popped, pushed_backed, wrap_below}
 
 module _ {T : Type 0} (q : QueueState T) (begins : q.start ≤ q.capacity - 1) (within : q.len ≤ q.capacity) (backed : Backed q) where
-  sized : length (contents q) ≡ q.len
-  sized = length_contents q within backed
-
-  -- an element below the length is found
-  found : (i : ℕ) → i < q.len → (x : T) × (slice_get (contents q) i ≡ Some x)
-  found i h = nth_some (contents q) i (omega (arith, sized))
+  held : length (contents q) ≡ q.len
+  held = sized q begins within backed
 
   -- the oldest of a full queue lies at start
   oldest_full : q.len ≡ q.capacity → 0 < q.capacity → slice_get (contents q) 0 ≡ slice_get q.cells q.start
@@ -36,14 +29,14 @@ module _ {T : Type 0} (q : QueueState T) (begins : q.start ≤ q.capacity - 1) (
   latest_room : (v : T) → q.len < q.capacity → latest q.capacity (contents q ++ (v ∷ [])) ≡ contents q ++ (v ∷ [])
   latest_room v room =
       let more = length_push (contents q) v in
-      let none : length (contents q ++ (v ∷ [])) - q.capacity ≡ 0 = omega (arith, sized) in
+      let none : length (contents q ++ (v ∷ [])) - q.capacity ≡ 0 = omega (arith, held) in
       ap (λ n. drop n (contents q ++ (v ∷ []))) none
 
   latest_full : (v : T) → q.len ≡ q.capacity → 0 < q.capacity → latest q.capacity (contents q ++ (v ∷ [])) ≡ drop 1 (contents q) ++ (v ∷ [])
   latest_full v full some =
       let more = length_push (contents q) v in
-      let one : length (contents q ++ (v ∷ [])) - q.capacity ≡ 1 = omega (arith, sized) in
-      ap (λ n. drop n (contents q ++ (v ∷ []))) one ∙ drop-append-le 1 (contents q) (v ∷ []) (omega (arith, sized))
+      let one : length (contents q ++ (v ∷ [])) - q.capacity ≡ 1 = omega (arith, held) in
+      ap (λ n. drop n (contents q ++ (v ∷ []))) one ∙ drop-append-le 1 (contents q) (v ∷ []) (omega (arith, held))
 
   -- the three ways of a push with overflow
   module _ (v : T) (r : Result (Option T) Refusal) (q' : QueueState T) (er : r ≡ overflow_answer q) (eq : q' ≡ cond (is_ok r) (overflowed q v) q) where
@@ -57,7 +50,7 @@ module _ {T : Type 0} (q : QueueState T) (begins : q.start ≤ q.capacity - 1) (
         let now : q' ≡ q = eq ∙ ap (λ s. cond (is_ok s) (overflowed q v) q) refused in
         record {
           value = refused ∙ sym (cond-true _ _ _ (eq-eqb q.capacity 0 none));
-          holds = ap contents now ∙ nil_from_length (contents q) (omega (arith, sized)) ∙ sym (drop_all (length (contents q ++ (v ∷ [])) - q.capacity) (contents q ++ (v ∷ [])) (omega arith));
+          holds = ap contents now ∙ nil_from_length (contents q) (omega (arith, held)) ∙ sym (drop_all (length (contents q ++ (v ∷ [])) - q.capacity) (contents q ++ (v ∷ [])) (omega arith));
           backed = subst Backed (sym now) backed;
         }
 
@@ -70,7 +63,7 @@ module _ {T : Type 0} (q : QueueState T) (begins : q.start ≤ q.capacity - 1) (
         = er ∙ cond-false _ _ _ some ∙ cond-true _ _ _ yes-room ∙ ap (result_map_both (λ _. None) (λ e. e)) (write_within q.cells q.start (omega arith)) in
         let now : q' ≡ pushed q v = eq ∙ ap (λ s. cond (is_ok s) (overflowed q v) q) answered ∙ cond-true _ _ _ yes-room in
         record {
-          value = answered ∙ sym (cond-false _ _ _ some ∙ ap Ok (cond-true _ _ _ (lt-ltb (length (contents q)) q.capacity (omega (arith, sized)))));
+          value = answered ∙ sym (cond-false _ _ _ some ∙ ap Ok (cond-true _ _ _ (lt-ltb (length (contents q)) q.capacity (omega (arith, held)))));
           holds = ap contents now ∙ contents_pushed q begins within backed v room ∙ sym (latest_room v room);
           backed = subst Backed (sym now) (pushed_backed q begins within backed v);
         }
@@ -80,14 +73,14 @@ module _ {T : Type 0} (q : QueueState T) (begins : q.start ≤ q.capacity - 1) (
     is_full full positive =
         let some = ne_eqb q.capacity 0 (λ e. omega arith) in
         let no_room = le-ltb q.len q.capacity (omega arith) in
-        let it = found 0 (omega arith) in
+        let it = found q begins within backed 0 (omega arith) in
         let answered : r ≡ Ok (slice_get (contents q) 0)
         = er ∙ cond-false _ _ _ some ∙ cond-false _ _ _ no_room
         ∙ ap (λ o. result_map_both Some (λ e. e) (ok_or o NoPlace)) (sym (oldest_full full positive))
         ∙ some_read (slice_get (contents q) 0) it.0 it.1 in
         let now : q' ≡ pushed (popped q) v = eq ∙ ap (λ s. cond (is_ok s) (overflowed q v) q) answered ∙ cond-false _ _ _ no_room in
         record {
-          value = answered ∙ sym (cond-false _ _ _ some ∙ ap Ok (cond-false _ _ _ (le-ltb (length (contents q)) q.capacity (omega (arith, sized)))));
+          value = answered ∙ sym (cond-false _ _ _ some ∙ ap Ok (cond-false _ _ _ (le-ltb (length (contents q)) q.capacity (omega (arith, held)))));
           holds =
               ap contents now
               ∙ contents_pushed (popped q) begins (omega arith) backed v (omega arith)
