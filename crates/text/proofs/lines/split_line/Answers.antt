@@ -1,5 +1,5 @@
-use Rattle.std.proofs.Common.{◌+◌, ◌∙◌, rules}
-use Rattle.std.proofs.lemmas.List.{take_rest}
+use Rattle.std.proofs.Common.{◌+◌, ◌∙◌, length, arith, rules}
+use Rattle.std.proofs.lemmas.List.{take_rest, drop_all}
 use Rattle.text.proofs.Splits.{first_ends, first_only}
 use Rattle.text.proofs.lines.split_line.Goals as goal
 
@@ -12,4 +12,5 @@ returns-in-Some c =
 pub returns-in-None : goal.returns-in-None
 returns-in-None c =
     let parts = first_only c.args.text.now (search rules) in
-    record { line = parts.0; rest = parts.1 }
+    let text = c.args.text.now in
+    record { line = parts.0; rest = take_rest text (length text) ∙ drop_all (length text) text (omega arith) ∙ parts.1 }
