@@ -20,7 +20,7 @@ fn split_line(text: &[u8]) -> (&[u8], &[u8])
 {
     match text.iter().position(|b| *b == LINE_END) {
         Some(end) => (&text[..end], &text[end + 1..]),
-        // Where `text` ends, and not `&[]`: with that, each byte of the search above is counted twice.
+        // The end of `text` itself: with `&[]` the compiled search keeps a second count.
         None => (text, &text[text.len()..]),
     }
 }

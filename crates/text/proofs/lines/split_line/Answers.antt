@@ -11,6 +11,6 @@ returns-in-Some c =
 
 pub returns-in-None : goal.returns-in-None
 returns-in-None c =
-    let parts = first_only c.args.text.now (search rules) in
     let text = c.args.text.now in
+    let parts = first_only text (search rules) in
     record { line = parts.0; rest = take_rest text (length text) ∙ drop_all (length text) text (omega arith) ∙ parts.1 }
